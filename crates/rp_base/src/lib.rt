@@ -25,10 +25,13 @@ pub use key::Key;
 pub use line::{Line, Lines};
 pub use list_clock::ListClock;
 pub use mem_inputs::{Content, MemInputs, SureInputs};
-pub use mem_link::{Datagram, Mailbox, MemLink, Post, Receipt, SureLink};
+pub use mem_link::{Datagram, MemLink, Post, Receipt, SureLink, Waiting};
 pub use mem_sink::{Kept, MemSink, SureSink};
 pub use node::{Node, Output, Packet};
 pub use numbers::{Advances, Cells, Marks, Numbers};
 pub use outside::{Clock, Failed, InputEnd, Inputs, Link, LinkEnd, Sink, write_all};
 pub use refused::{Refused, Why};
 pub use words::Words;
+
+#[cfg(test)]
+mod tests;

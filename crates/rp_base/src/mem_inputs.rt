@@ -1,7 +1,8 @@
 //! Inputs in memory.
-ghost use Rattle.std.specs.Prelude.{◌≡◌, ◌+◌, [], Some, take, length, OnOk, OnErr};
+ghost use Rattle.std.specs.Prelude.{◌≡◌, ◌+◌, ◌⊎◌, ◌↔◌, [], Some, None, take, length, IfSome, OnOk, OnErr, IsErrOf, Contains};
 ghost use Rattle.std.specs.Option.{option_copied};
 ghost use Rattle.rp_base.specs.Memory.{content_of, sure_content_of};
+ghost use Rattle.rp_base.specs.Outside.{HasCause};
 
 use crate::bytes::Bytes;
 use crate::error::NoMemory;
@@ -90,16 +91,26 @@ impl Inputs for MemInputs {
 
     ghost faults = { λ s. s.faults };
 
-    fn load(&mut self, name: &[u8], limit: u64, into: &mut Bytes) -> Result<(), InputEnd> {
+    fn load(&mut self, name: &[u8], limit: u64, into: &mut Bytes) -> Result<(), InputEnd>
+        ensures ok { OnOk result (IfSome (content_of self.old.contents.items name.now) (λ content. into.new ≡ take (limit + 1) content)) }
+        ensures err { OnErr result (into.new ≡ []) }
+        ensures same { self.new.contents.items ≡ self.old.contents.items }
+        ensures cause { HasCause self.old.faults self.new.faults result InputEnd.Failed }
+        ensures listed { IsErrOf result InputEnd.Failed ↔ (Contains self.old.failing.items self.old.calls ⊎ (content_of self.old.contents.items name.now ≡ None)) }
+    {
         into.clear();
         let call = self.calls;
         self.calls = self.calls.saturating_add(1);
-        if !self.failing.contains(&call) {
-            if let Some(content) = listed(&self.contents, name) {
-                return fill(into, content, limit).map_err(|_| InputEnd::NoMemory);
+        if self.failing.contains(&call) {
+            self.faults = self.faults.saturating_add(1);
+            return Err(InputEnd::Failed);
+        }
+        match listed(&self.contents, name) {
+            Some(content) => fill(into, content, limit).map_err(|_| InputEnd::NoMemory),
+            None => {
+                self.faults = self.faults.saturating_add(1);
+                Err(InputEnd::Failed)
             }
         }
-        self.faults = self.faults.saturating_add(1);
-        Err(InputEnd::Failed)
     }
 }

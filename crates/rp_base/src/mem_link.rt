@@ -1,6 +1,9 @@
-//! Links in memory: what is sent to a node waits in its box.
-ghost use Rattle.std.specs.Prelude.{◌≡◌, ◌++◌, ◌∷◌, [], Some, None, true, false, map, OnOk, OnErr, IsErrOf};
-ghost use Rattle.rp_base.specs.Memory.{sending_of, receipt_of};
+//! Links in memory: what was sent to a node waits until it is received.
+ghost use Rattle.std.specs.Prelude.{◌≡◌, ◌++◌, ◌∷◌, [], Some, None, true, false, map, ◌↔◌, OnOk, OnErr, IsErrOf, Contains};
+ghost use Rattle.std.specs.List.{position};
+ghost use Rattle.rp_base.specs.declared.node.Node.{Node as NodeValue};
+ghost use Rattle.rp_base.specs.Memory.{sending_of, receipt_of, same_node, queue_of, Joins, Leaves};
+ghost use Rattle.rp_base.specs.Outside.{HasCause};
 
 use crate::bytes::Bytes;
 use crate::node::Node;
@@ -22,71 +25,51 @@ pub struct Receipt {
     pub bytes: Option<Bytes>,
 }
 
-/// The datagrams for one node, of which the first `taken` were received.
+/// A datagram that its addressee hasn't received yet.
 #[derive(Debug, Drop)]
-pub struct Mailbox {
-    pub node: Node,
-    pub datagrams: Vec<Bytes>,
-    pub taken: usize,
+pub struct Waiting {
+    pub to: Node,
+    pub bytes: Bytes,
 }
 
-/// Datagrams that were sent and received, and a box for each node that was sent to.
+/// The datagrams that were sent and received, and those that wait, in the order in which they came.
 #[derive(Debug, Drop)]
 pub struct Post {
     pub sent: Vec<Datagram>,
     pub received: Vec<Receipt>,
-    pub boxes: Vec<Mailbox>,
+    pub waiting: Vec<Waiting>,
     pub alloc: Global,
 }
 
-// The first datagram in a node's box that wasn't received.
-fn waiting(boxes: &[Mailbox], node: Node) -> Option<&Bytes> {
-    for b in boxes {
-        if b.node == node {
-            return b.datagrams.get(b.taken);
-        }
-    }
-    None
-}
-
-fn count_taken(boxes: &mut [Mailbox], node: Node) {
-    for b in boxes {
-        if b.node == node {
-            b.taken = b.taken.saturating_add(1);
-            return;
-        }
-    }
-}
-
-// Puts a datagram at the end of a node's box.
-fn put(alloc: Global, boxes: &mut Vec<Mailbox>, node: Node, bytes: Bytes) -> Result<(), LinkEnd>
-    ensures { IsErrOf result LinkEnd.Failed → ⊥ }
+// Whether two nodes are one.
+fn same(a: Node, b: Node) -> bool
+    ensures { result ≡ same_node a b }
 {
-    if let Some(i) = boxes.iter().position(|b| b.node == node) {
-        return boxes[i]
-            .datagrams
-            .push(bytes)
-            .map_err(|_| LinkEnd::NoMemory);
+    match (a, b) {
+        (Node::Switch(n), Node::Switch(m)) => n == m,
+        (Node::Replica(n), Node::Replica(m)) => n == m,
+        (Node::Master, Node::Master) => true,
+        _ => false,
     }
-    let mut datagrams = Vec::new(alloc);
-    datagrams.push(bytes).map_err(|_| LinkEnd::NoMemory)?;
-    boxes
-        .push(Mailbox {
-            node,
-            datagrams,
-            taken: 0,
-        })
-        .map_err(|_| LinkEnd::NoMemory)
 }
 
-// Takes the last datagram of a node's box back.
-fn take_back(boxes: &mut [Mailbox], node: Node) {
-    for b in boxes {
-        if b.node == node {
-            b.datagrams.pop();
-            return;
-        }
-    }
+// The place of the first datagram for this node.
+fn place_for(waiting: &[Waiting], node: Node) -> Option<usize>
+    ensures { result ≡ position (λ w. same_node w.to node) waiting.now }
+{
+    waiting.iter().position(|w| same(w.to, node))
+}
+
+fn put(alloc: Global, waiting: &mut Vec<Waiting>, to: Node, frame: &[u8]) -> Result<(), LinkEnd>
+    ensures ok { OnOk result (Joins to frame.now waiting.old.items waiting.new.items) }
+    ensures err { OnErr result (waiting.new.items ≡ waiting.old.items) }
+    ensures failed { IsErrOf result LinkEnd.Failed → ⊥ }
+{
+    let mut bytes = Bytes::new(alloc);
+    bytes.append(frame).map_err(|_| LinkEnd::NoMemory)?;
+    waiting
+        .push(Waiting { to, bytes })
+        .map_err(|_| LinkEnd::NoMemory)
 }
 
 impl Post {
@@ -94,43 +77,44 @@ impl Post {
     pub fn new(alloc: Global) -> Post
         ensures sent { result.sent.items ≡ [] }
         ensures received { result.received.items ≡ [] }
+        ensures waiting { result.waiting.items ≡ [] }
     {
         Post {
             sent: Vec::new(alloc),
             received: Vec::new(alloc),
-            boxes: Vec::new(alloc),
+            waiting: Vec::new(alloc),
             alloc,
         }
     }
 
-    /// Puts a datagram into a node's box that no node of this link has sent.
+    /// Lets a datagram wait for a node that no node of this link has sent.
     ///
     /// # Errors
-    /// `LinkEnd::NoMemory`.
+    /// `LinkEnd::NoMemory`; nothing changes.
     pub fn slip_in(&mut self, to: Node, frame: &[u8]) -> Result<(), LinkEnd>
+        ensures ok { OnOk result (Joins to frame.now self.old.waiting.items self.new.waiting.items) }
+        ensures err { OnErr result (self.new.waiting.items ≡ self.old.waiting.items) }
         ensures failed { IsErrOf result LinkEnd.Failed → ⊥ }
         ensures sent { self.new.sent.items ≡ self.old.sent.items }
         ensures received { self.new.received.items ≡ self.old.received.items }
     {
-        let mut bytes = Bytes::new(self.alloc);
-        bytes.append(frame).map_err(|_| LinkEnd::NoMemory)?;
-        put(self.alloc, &mut self.boxes, to, bytes)
+        put(self.alloc, &mut self.waiting, to, frame)
     }
 
     fn send(&mut self, from: Node, to: Node, frame: &[u8]) -> Result<(), LinkEnd>
         ensures ok { OnOk result (self.new.sent.items ≡ self.old.sent.items ++ record { from = from; to = to; bytes = frame.now } ∷ []) }
-        ensures err { OnErr result (self.new.sent.items ≡ self.old.sent.items) }
+        ensures waits { OnOk result (Joins to frame.now self.old.waiting.items self.new.waiting.items) }
+        ensures err { OnErr result ((self.new.sent.items ≡ self.old.sent.items) × (self.new.waiting.items ≡ self.old.waiting.items)) }
         ensures failed { IsErrOf result LinkEnd.Failed → ⊥ }
         ensures received { self.new.received.items ≡ self.old.received.items }
     {
         let mut bytes = Bytes::new(self.alloc);
         bytes.append(frame).map_err(|_| LinkEnd::NoMemory)?;
-        self.slip_in(to, frame)?;
-        if self.sent.push(Datagram { from, to, bytes }).is_err() {
-            take_back(&mut self.boxes, to);
-            return Err(LinkEnd::NoMemory);
-        }
-        Ok(())
+        self.sent.reserve(1).map_err(|_| LinkEnd::NoMemory)?;
+        put(self.alloc, &mut self.waiting, to, frame)?;
+        self.sent
+            .push(Datagram { from, to, bytes })
+            .map_err(|_| LinkEnd::NoMemory)
     }
 
     fn note(&mut self, node: Node, bytes: Option<Bytes>) -> Result<(), LinkEnd>
@@ -138,6 +122,7 @@ impl Post {
         ensures err { OnErr result (self.new.received.items ≡ self.old.received.items) }
         ensures failed { IsErrOf result LinkEnd.Failed → ⊥ }
         ensures sent { self.new.sent.items ≡ self.old.sent.items }
+        ensures waiting { self.new.waiting.items ≡ self.old.waiting.items }
     {
         self.received
             .push(Receipt { node, bytes })
@@ -146,26 +131,25 @@ impl Post {
 
     fn recv(&mut self, node: Node, into: &mut Bytes) -> Result<bool, LinkEnd>
         ensures some { result ≡ Ok true → self.new.received.items ≡ self.old.received.items ++ record { node = node; bytes = Some into.new } ∷ [] }
+        ensures first { result ≡ Ok true → Leaves node into.new self.old.waiting.items self.new.waiting.items }
         ensures none { result ≡ Ok false → self.new.received.items ≡ self.old.received.items ++ record { node = node; bytes = None } ∷ [] }
-        ensures empty { result ≡ Ok false → into.new ≡ [] }
-        ensures err { OnErr result ((self.new.received.items ≡ self.old.received.items) × (into.new ≡ [])) }
+        ensures nothing { result ≡ Ok false → queue_of node self.old.waiting.items ≡ [] }
+        ensures empty { result ≡ Ok false → (into.new ≡ []) × (self.new.waiting.items ≡ self.old.waiting.items) }
+        ensures err { OnErr result ((self.new.received.items ≡ self.old.received.items) × (into.new ≡ []) × (self.new.waiting.items ≡ self.old.waiting.items)) }
         ensures failed { IsErrOf result LinkEnd.Failed → ⊥ }
         ensures sent { self.new.sent.items ≡ self.old.sent.items }
     {
         into.clear();
-        let (bytes, again) = match waiting(&self.boxes, node) {
+        let i = match place_for(&self.waiting, node) {
             None => {
                 self.note(node, None)?;
                 return Ok(false);
             }
-            Some(first) => match (first.copy(), first.copy()) {
-                (Ok(bytes), Ok(again)) => (bytes, again),
-                _ => return Err(LinkEnd::NoMemory),
-            },
+            Some(i) => i,
         };
-        self.note(node, Some(again))?;
-        count_taken(&mut self.boxes, node);
-        *into = bytes;
+        let bytes = self.waiting[i].bytes.copy().map_err(|_| LinkEnd::NoMemory)?;
+        self.note(node, Some(bytes))?;
+        *into = self.waiting.remove(i).bytes;
         Ok(true)
     }
 }
@@ -183,11 +167,26 @@ impl Link for SureLink {
 
     ghost faults = { λ _. 0 };
 
-    fn send(&mut self, from: Node, to: Node, frame: &[u8]) -> Result<(), LinkEnd> {
+    fn send(&mut self, from: Node, to: Node, frame: &[u8]) -> Result<(), LinkEnd>
+        ensures ok { OnOk result (self.new.post.sent.items ≡ self.old.post.sent.items ++ record { from = from; to = to; bytes = frame.now } ∷ []) }
+        ensures waits { OnOk result (Joins to frame.now self.old.post.waiting.items self.new.post.waiting.items) }
+        ensures err { OnErr result ((self.new.post.sent.items ≡ self.old.post.sent.items) × (self.new.post.waiting.items ≡ self.old.post.waiting.items)) }
+        ensures received { self.new.post.received.items ≡ self.old.post.received.items }
+        ensures failed { IsErrOf result LinkEnd.Failed → ⊥ }
+    {
         self.post.send(from, to, frame)
     }
 
-    fn recv(&mut self, node: Node, into: &mut Bytes) -> Result<bool, LinkEnd> {
+    fn recv(&mut self, node: Node, into: &mut Bytes) -> Result<bool, LinkEnd>
+        ensures some { result ≡ Ok true → self.new.post.received.items ≡ self.old.post.received.items ++ record { node = node; bytes = Some into.new } ∷ [] }
+        ensures first { result ≡ Ok true → Leaves node into.new self.old.post.waiting.items self.new.post.waiting.items }
+        ensures none { result ≡ Ok false → self.new.post.received.items ≡ self.old.post.received.items ++ record { node = node; bytes = None } ∷ [] }
+        ensures nothing { result ≡ Ok false → queue_of node self.old.post.waiting.items ≡ [] }
+        ensures empty { result ≡ Ok false → (into.new ≡ []) × (self.new.post.waiting.items ≡ self.old.post.waiting.items) }
+        ensures err { OnErr result ((self.new.post.received.items ≡ self.old.post.received.items) × (into.new ≡ []) × (self.new.post.waiting.items ≡ self.old.post.waiting.items)) }
+        ensures sent { self.new.post.sent.items ≡ self.old.post.sent.items }
+        ensures failed { IsErrOf result LinkEnd.Failed → ⊥ }
+    {
         self.post.recv(node, into)
     }
 }
@@ -210,7 +209,14 @@ impl Link for MemLink {
 
     ghost faults = { λ s. s.faults };
 
-    fn send(&mut self, from: Node, to: Node, frame: &[u8]) -> Result<(), LinkEnd> {
+    fn send(&mut self, from: Node, to: Node, frame: &[u8]) -> Result<(), LinkEnd>
+        ensures ok { OnOk result (self.new.post.sent.items ≡ self.old.post.sent.items ++ record { from = from; to = to; bytes = frame.now } ∷ []) }
+        ensures waits { OnOk result (Joins to frame.now self.old.post.waiting.items self.new.post.waiting.items) }
+        ensures err { OnErr result ((self.new.post.sent.items ≡ self.old.post.sent.items) × (self.new.post.waiting.items ≡ self.old.post.waiting.items)) }
+        ensures received { self.new.post.received.items ≡ self.old.post.received.items }
+        ensures cause { HasCause self.old.faults self.new.faults result LinkEnd.Failed }
+        ensures listed { IsErrOf result LinkEnd.Failed ↔ Contains self.old.failing_sends.items self.old.sends }
+    {
         let call = self.sends;
         self.sends = self.sends.saturating_add(1);
         if self.failing_sends.contains(&call) {
@@ -220,7 +226,17 @@ impl Link for MemLink {
         self.post.send(from, to, frame)
     }
 
-    fn recv(&mut self, node: Node, into: &mut Bytes) -> Result<bool, LinkEnd> {
+    fn recv(&mut self, node: Node, into: &mut Bytes) -> Result<bool, LinkEnd>
+        ensures some { result ≡ Ok true → self.new.post.received.items ≡ self.old.post.received.items ++ record { node = node; bytes = Some into.new } ∷ [] }
+        ensures first { result ≡ Ok true → Leaves node into.new self.old.post.waiting.items self.new.post.waiting.items }
+        ensures none { result ≡ Ok false → self.new.post.received.items ≡ self.old.post.received.items ++ record { node = node; bytes = None } ∷ [] }
+        ensures nothing { result ≡ Ok false → queue_of node self.old.post.waiting.items ≡ [] }
+        ensures empty { result ≡ Ok false → (into.new ≡ []) × (self.new.post.waiting.items ≡ self.old.post.waiting.items) }
+        ensures err { OnErr result ((self.new.post.received.items ≡ self.old.post.received.items) × (into.new ≡ []) × (self.new.post.waiting.items ≡ self.old.post.waiting.items)) }
+        ensures sent { self.new.post.sent.items ≡ self.old.post.sent.items }
+        ensures cause { HasCause self.old.faults self.new.faults result LinkEnd.Failed }
+        ensures listed { IsErrOf result LinkEnd.Failed ↔ Contains self.old.failing_receives.items self.old.receives }
+    {
         into.clear();
         let call = self.receives;
         self.receives = self.receives.saturating_add(1);

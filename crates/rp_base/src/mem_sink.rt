@@ -1,7 +1,8 @@
 //! Sinks in memory. Their room is made beforehand, so that a write takes no memory.
-ghost use Rattle.std.specs.Prelude.{◌≡◌, ◌≤◌, ◌++◌, [], true, false, IfOk};
-ghost use Rattle.rp_base.specs.Memory.{told};
-ghost use Rattle.rp_base.specs.Outside.{Grows};
+ghost use Rattle.std.specs.Prelude.{◌≡◌, ◌≤◌, ◌+◌, ◌++◌, ◌↔◌, [], true, false, length, take, min, Ok, IfOk, IsErr, OnErr, Contains};
+ghost use Rattle.std.specs.Vec.{vec_capacity};
+ghost use Rattle.rp_base.specs.Memory.{told, StaysWhole};
+ghost use Rattle.rp_base.specs.Outside.{Grows, HasCause};
 
 use crate::error::NoMemory;
 use crate::outside::{Failed, Sink};
@@ -15,6 +16,7 @@ pub struct Kept {
     pub whole: bool,
     /// How many bytes there is room for.
     pub room: usize,
+    ghost made: { room ≤ vec_capacity bytes },
 }
 
 impl Kept {
@@ -25,6 +27,7 @@ impl Kept {
     pub fn with_room(alloc: Global, room: usize) -> Result<Kept, NoMemory>
         ensures bytes { IfOk result (λ kept. kept.bytes.items ≡ []) }
         ensures whole { IfOk result (λ kept. kept.whole ≡ true) }
+        ensures room { IfOk result (λ kept. kept.room ≡ room) }
     {
         let mut bytes = Vec::new(alloc);
         bytes.reserve(room)?;
@@ -37,7 +40,9 @@ impl Kept {
 
     // Keeps a piece where there is room for it; else not every byte is kept from now on.
     fn keep(&mut self, piece: &[u8])
-        ensures { Grows (told self.old.whole self.old.bytes.items) (told self.new.whole self.new.bytes.items) piece.now }
+        ensures grows { Grows (told self.old.whole self.old.bytes.items) (told self.new.whole self.new.bytes.items) piece.now }
+        ensures whole { StaysWhole self.old.whole (length self.old.bytes.items + length piece.now) self.old.room self.new.whole }
+        ensures room { self.new.room ≡ self.old.room }
     {
         let has_room = self.bytes.len() <= self.room && piece.len() <= self.room - self.bytes.len();
         if !has_room || self.bytes.extend_from_slice(piece).is_err() {
@@ -57,7 +62,12 @@ impl Sink for SureSink {
 
     ghost faults = { λ _. 0 };
 
-    fn write(&mut self, piece: &[u8]) -> Result<usize, Failed> {
+    fn write(&mut self, piece: &[u8]) -> Result<usize, Failed>
+        ensures all { result ≡ Ok (length piece.now) }
+        ensures grows { Grows (told self.old.kept.whole self.old.kept.bytes.items) (told self.new.kept.whole self.new.kept.bytes.items) piece.now }
+        ensures whole { StaysWhole self.old.kept.whole (length self.old.kept.bytes.items + length piece.now) self.old.kept.room self.new.kept.whole }
+        ensures room { self.new.kept.room ≡ self.old.kept.room }
+    {
         self.kept.keep(piece);
         Ok(piece.len())
     }
@@ -79,7 +89,15 @@ impl Sink for MemSink {
 
     ghost faults = { λ s. s.faults };
 
-    fn write(&mut self, piece: &[u8]) -> Result<usize, Failed> {
+    fn write(&mut self, piece: &[u8]) -> Result<usize, Failed>
+        ensures listed { IsErr result ↔ Contains self.old.failing.items self.old.calls }
+        ensures front { IfOk result (λ n. n ≡ min (length piece.now) self.old.most) }
+        ensures ok { IfOk result (λ n. Grows (told self.old.kept.whole self.old.kept.bytes.items) (told self.new.kept.whole self.new.kept.bytes.items) (take n piece.now)) }
+        ensures whole { IfOk result (λ n. StaysWhole self.old.kept.whole (length self.old.kept.bytes.items + n) self.old.kept.room self.new.kept.whole) }
+        ensures room { self.new.kept.room ≡ self.old.kept.room }
+        ensures err { OnErr result (self.new.kept ≡ self.old.kept) }
+        ensures cause { HasCause self.old.faults self.new.faults result (record {}) }
+    {
         let call = self.calls;
         self.calls = self.calls.saturating_add(1);
         if self.failing.contains(&call) {

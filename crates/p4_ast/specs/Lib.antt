@@ -1,0 +1,3 @@
+pub mod Bare
+pub mod BareStatements
+pub mod BareProgram

@@ -1,0 +1,10 @@
+//! The data of nodes and messages: entries of the store's book, messages, records and terms.
+#![tactic(auto)]
+
+mod chain;
+mod message;
+mod terms;
+
+pub use chain::{Chain, Chunk};
+pub use message::{Body, Carried, Config, Echoed, Entry, Input, Msg, Record};
+pub use terms::{Mode, Terms};

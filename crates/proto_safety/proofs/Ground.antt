@@ -1,0 +1,144 @@
+-- What the second half of the laws stands on, in strict mode: books, replies, origins, requests, and what a lease rests on, all together.
+use Rattle.std.proofs.Common.{◌≡◌, ◌⊎◌, inl, inr, ℕ, ◌+◌, ◌≤◌, ◌<◌, List, [], ◌∷◌, Option, Some, None, refl, sym, ap, ◌∙◌, subst, true, false, Bool, slice_get, arith, append-nil, nat_lt}
+use Rattle.proto_data.specs.declared.message.Config.{Config}
+use Rattle.proto_data.specs.declared.message.Entry.{Entry}
+use Rattle.proto_data.specs.declared.message.Input.{Input}
+use Rattle.proto_data.specs.declared.terms.Mode.{Mode}
+use Rattle.rp_base.specs.declared.event.Event.{Event}
+use Rattle.rp_app.specs.Application.{Application}
+use Rattle.proto_model.specs.Table.{Key}
+use Rattle.proto_model.specs.Slot.{Slot, Lease, Idle, Asking, Held, Lapsed, epoch_of}
+use Rattle.proto_model.specs.SwitchState.{slot_at, Copy}
+use Rattle.proto_model.specs.SwitchRows.{switch_step}
+use Rattle.proto_model.specs.Stands.{entries_of}
+use Rattle.proto_model.specs.World.{World, Setup, SwitchNode, ReplicaNode, opened}
+use Rattle.proto_model.specs.WorldStep.{world_after}
+use Rattle.proto_safety.specs.Books.{In, IsPrefix, Books, lives, book_of, entries_at, committed_of}
+use Rattle.proto_safety.specs.Flows.{FitsFrom}
+use Rattle.proto_safety.specs.CellLaws.{Rests, SlotRests, copies_of}
+use Rattle.std.proofs.lemmas.Bool.{ltb-true, ltb-false}
+use Rattle.proto_safety.proofs.BookEpochLaws.{committed_fits}
+use Rattle.proto_safety.proofs.LastBook.{Found, find_last, last_book, none_book, IsLast}
+use Rattle.proto_safety.proofs.Lists.{each_at}
+use Rattle.proto_safety.proofs.Tables.{same_some}
+use Rattle.proto_safety.proofs.SwitchNodes.{AllAt, all_set, all_changed, all_advanced, all_opened}
+use Rattle.proto_safety.proofs.FlowInduction.{step_same}
+use Rattle.proto_safety.proofs.WorldFits.{NodeFits, BooksFit}
+use Rattle.proto_safety.proofs.WorldFlows.{Replied, AllRest, replied_kept, rests_kept}
+use Rattle.proto_safety.proofs.WorldOrigins.{NodeOrigins, Stored, Origins, stored_kept, origins_kept}
+use Rattle.proto_safety.proofs.WorldNonces.{Spoken, AllNonces, spoken_kept, nonces_kept}
+use Rattle.proto_safety.proofs.WorldPuts.{GrantOf, Known}
+use Rattle.proto_safety.proofs.Induction.{Keeps, KeepsGiven, keeps_all, keeps_both, run_kept}
+
+-- every switch and the world are in strict mode
+pub record AllStrict (w : World) : Type 0 where
+  pub world : w.terms.mode ≡ Mode.Strict
+  pub switches : AllAt (λ n (node : SwitchNode). node.state.terms ≡ w.terms) w.switches
+
+stepped_terms : (app : Application) (w : World) (n : ℕ) (node : SwitchNode) (input : Input) → slice_get w.switches n ≡ Some node → AllStrict w → (switch_step app node.state node.clock input).0.terms ≡ w.terms
+stepped_terms app w n node input at h = (step_same app node.state node.clock input).terms ∙ h.switches n node at
+
+strict_kept : (app : Application) → Keeps app AllStrict
+strict_kept app =
+    record {
+      counts = λ w h. record { world = h.world; switches = h.switches };
+      passes = λ w i h. record { world = h.world; switches = h.switches };
+      feeds = λ w n node p at up mark h. record { world = h.world; switches = all_set (λ n (x : SwitchNode). x.state.terms ≡ w.terms) w.switches n _ (stepped_terms app w n node (Input.Packet p) at h) h.switches };
+      switches = λ w n node input at up from h. record { world = h.world; switches = all_set (λ n (x : SwitchNode). x.state.terms ≡ w.terms) w.switches n _ (stepped_terms app w n node input at h) h.switches };
+      replicas = λ w n node input at up from h. record { world = h.world; switches = h.switches };
+      advances = λ w by fits h. record { world = h.world; switches = all_advanced (λ n (x : SwitchNode). x.state.terms ≡ w.terms) w.switches by (λ m d x k. k) h.switches };
+      stops_switch = λ w n fits h. record { world = h.world; switches = all_changed (λ n (x : SwitchNode). x.state.terms ≡ w.terms) w.switches n _ (λ m x k. k) h.switches };
+      stops_replica = λ w n fits h. record { world = h.world; switches = h.switches };
+      boots = λ w n fits h. record { world = h.world; switches = all_changed (λ n (x : SwitchNode). x.state.terms ≡ w.terms) w.switches n _ (λ m x k. refl) h.switches };
+      detects_switch = λ w n fits h. record { world = h.world; switches = all_changed (λ n (x : SwitchNode). x.state.terms ≡ w.terms) w.switches n _ (λ m x k. k) h.switches };
+      detects_replica = λ w n fits h. record { world = h.world; switches = h.switches };
+      announces = λ w h. record { world = h.world; switches = h.switches };
+    }
+
+-- what a lease rests on, and the replies
+abbrev pub Rested : ℕ → World → Type 0
+Rested cells w = Replied cells w × AllRest (committed_of w.replicas) w.switches
+
+abbrev pub Origin : World → Type 0
+Origin w = Stored w × Origins w
+
+abbrev pub Nonces : World → Type 0
+Nonces w = Spoken w × AllNonces w
+
+abbrev pub Ground : ℕ → World → Type 0
+Ground cells w = (Rested cells w × Origin w) × (Nonces w × AllStrict w)
+
+rested_kept : (app : Application) → Keeps app (Rested app.cell_count)
+rested_kept app = keeps_both app (Replied app.cell_count) (λ w. AllRest (committed_of w.replicas) w.switches) (replied_kept app) (rests_kept app)
+
+origin_kept : (app : Application) → Keeps app Origin
+origin_kept app = keeps_both app Stored Origins (stored_kept app) (origins_kept app)
+
+all_nonces_kept : (app : Application) → Keeps app Nonces
+all_nonces_kept app = keeps_both app Spoken AllNonces (spoken_kept app) (nonces_kept app)
+
+pub ground_kept : (app : Application) → Keeps app (Ground app.cell_count)
+ground_kept app =
+    keeps_all app (λ w. Rested app.cell_count w × Origin w) (λ w. Nonces w × AllStrict w) (keeps_all app (Rested app.cell_count) Origin (rested_kept app) (origin_kept app))
+    (keeps_all app Nonces AllStrict (all_nonces_kept app) (strict_kept app))
+
+-- ---- what it says of leases, Grants and nonces
+
+leased_grant : (es : List Entry) (n inc : ℕ) (key : Key) (l : Lease) (last e : ℕ) (cs : List Copy) → Rests es n inc key l last cs → epoch_of l ≡ Some e → GrantOf es n inc key e
+leased_grant es n inc key (Held nonce epoch expiry) last e cs h is =
+    let same : epoch ≡ e = cc in record { nonce = nonce; there = subst (λ x. In es (Entry.Grant key x n inc nonce)) same h.0 }
+leased_grant es n inc key (Lapsed nonce epoch expiry) last e cs h is =
+    let same : epoch ≡ e = cc in record { nonce = nonce; there = subst (λ x. In es (Entry.Grant key x n inc nonce)) same h.0 }
+leased_grant es n inc key Idle last e cs h is = absurd cc
+leased_grant es n inc key (Asking nonce first) last e cs h is = absurd cc
+
+-- the committed book is a front of each running replica's
+committed_within : (confs : List Config) (w : World) (r : ℕ) (replica : ReplicaNode) → Books confs w → slice_get w.replicas r ≡ Some replica → lives replica ≡ true → IsPrefix (committed_of w.replicas) (entries_of replica.book)
+committed_within confs w r replica h at up = found_case (find_last w.replicas)
+  where
+    below : (n : ℕ) (node : ReplicaNode) → IsLast w.replicas n node → (r < n) → IsPrefix (entries_of node.book) (entries_of replica.book)
+    below n node f lt =
+        let k = h.nodes n node f.at in
+        subst (λ (o : List Entry). IsPrefix (entries_of node.book) o) (ap entries_at at) (k.behind f.up r (h.configs.members node.state.config k.config r replica at up) lt)
+
+    order_case : (n : ℕ) (node : ReplicaNode) → IsLast w.replicas n node → (r < n) ⊎ (r ≡ n) → IsPrefix (entries_of node.book) (entries_of replica.book)
+    order_case n node f (inl lt) = below n node f lt
+    order_case n node f (inr e) =
+        let same : node ≡ replica = same_some (slice_get w.replicas n) node replica f.at (subst (λ x. slice_get w.replicas x ≡ Some replica) e at) in
+        record { rest = []; is = append-nil (entries_of node.book) ∙ ap (λ (x : ReplicaNode). entries_of x.book) same }
+
+    compare : (a b : ℕ) → a ≤ b → (a < b) ⊎ (a ≡ b)
+    compare a b le = compare_case (nat_lt a b) refl
+      where
+        compare_case : (t : Bool) → nat_lt a b ≡ t → (a < b) ⊎ (a ≡ b)
+        compare_case true t = inl (ltb-true a b t)
+        compare_case false t = inr (omega (arith, le, ltb-false a b t))
+
+    found_case : Found w.replicas → IsPrefix (committed_of w.replicas) (entries_of replica.book)
+    found_case (inl f) =
+        subst (λ (o : List Entry). IsPrefix o (entries_of replica.book)) (sym (ap entries_of (last_book w.replicas [] f.0 f.1.0 f.1.1)))
+        (order_case f.0 f.1.0 f.1.1 (compare r f.0 (f.1.1.last r replica at up)))
+    found_case (inr none) = absurd (none r replica at up)
+
+-- what is committed stands in a running book
+committed_runner : (w : World) (x : Entry) → In (committed_of w.replicas) x → (r : ℕ) × (replica : ReplicaNode) × (slice_get w.replicas r ≡ Some replica) × (lives replica ≡ true) × In (entries_of replica.book) x
+committed_runner w x i = found_case (find_last w.replicas)
+  where
+    found_case : Found w.replicas → (r : ℕ) × (replica : ReplicaNode) × (slice_get w.replicas r ≡ Some replica) × (lives replica ≡ true) × In (entries_of replica.book) x
+    found_case (inl f) = (f.0, f.1.0, f.1.1.at, f.1.1.up, subst (λ (o : List Entry). In o x) (ap entries_of (last_book w.replicas [] f.0 f.1.0 f.1.1)) i)
+    found_case (inr none) = absurd (subst (λ (o : List Entry). In o x) (ap entries_of (none_book w.replicas [] none)) i)
+
+pub known_of : (cells : ℕ) (w : World) → Ground cells w → Known cells w.frames w.switches w.replicas
+known_of cells w g =
+    record {
+      me = λ n node at. (g.1.0.0.1 n node at).me;
+      tidy = λ n node at. (g.1.0.0.1 n node at).tidy;
+      leased = λ n node key slot e at found is.
+          leased_grant (committed_of w.replicas) n node.state.inc key slot.lease slot.last e (copies_of node key)
+          (subst (λ o. SlotRests (committed_of w.replicas) n node.state.inc key o (copies_of node key)) found ((g.0.0.1 n node at key).rests (ap (λ t. t.mode) (g.1.1.switches n node at) ∙ g.1.1.world))) is;
+      fits = λ r replica key at. (each_at (NodeFits cells) w.replicas r replica g.0.0.0.0.1 at).fits key;
+      committed_fits = λ key. committed_fits cells w key g.0.0.0.0.1;
+      within = λ r replica at up. committed_within g.0.0.0.0.0.0 w r replica g.0.0.0.0.0.1 at up;
+      runner = λ x i. committed_runner w x i;
+      nonces = λ n node key e k r replica at here i. ((g.1.0.1 n node at).flows key).sent k (each_at (NodeOrigins w.frames) w.replicas r replica g.0.1.1.books here (Entry.Grant key e n node.state.inc k) i);
+    }

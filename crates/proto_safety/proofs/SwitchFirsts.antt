@@ -1,0 +1,490 @@
+-- In strict mode each Asking slot and each copy has its first sending, and what a switch's step asks for the first time is new.
+use Rattle.std.proofs.Common.{◌≡◌, ◌⊎◌, inl, inr, ℕ, ◌+◌, ◌≤◌, List, [], ◌∷◌, ◌++◌, Option, Some, None, refl, sym, ap, subst, ◌∙◌, true, false, Bool, map, arith, eqb-true}
+use Rattle.std.specs.Prelude.{◌==◌, ◌/◌, filter, not, if◌then◌else◌, option_map, option_and_then, unwrap_or, take, nat_lt, nat_le}
+use Rattle.std.proofs.lemmas.Bool.{false≢true, both_ways}
+use Rattle.rp_base.specs.declared.node.Node.{Node}
+use Rattle.proto_data.specs.declared.message.Msg.{Msg}
+use Rattle.proto_data.specs.declared.message.Body.{Body}
+use Rattle.proto_data.specs.declared.message.Input.{Input}
+use Rattle.proto_data.specs.declared.terms.Mode.{Mode}
+use Rattle.proto_data.specs.declared.message.Carried.{Carried}
+use Rattle.rp_base.specs.declared.node.Packet.{Packet}
+use Rattle.rp_app.specs.Application.{Application}
+use Rattle.proto_model.specs.Ring.{remember}
+use Rattle.proto_model.specs.Table.{Key, Table, same_key, get, put, map_values}
+use Rattle.proto_model.specs.Slot.{Slot, Lease, emptied, is_young, Idle, Asking, Held, Lapsed, epoch_of, lapsed_slot, lapsed_lease, extended}
+use Rattle.proto_model.specs.SwitchState.{Switch, Copy, slot_at, is_of, is_covered, lapsed}
+use Rattle.proto_model.specs.SwitchAlarm.{alarm, Walk, empty_put, resent, resent_put, repeated_ask, repeated_asks, due_copies, other_copies, walk_order, epoch_at}
+use Rattle.proto_model.specs.SwitchRow.{SwitchRow, Keyless, NoRoom, NewAsk, AskAgain, Drops, Direct, Mirrored, Granted, Late, Acked, RoundDone, Denied, Busied, Adopts, Resends, Stale, switch_row, has_epoch}
+use Rattle.proto_model.specs.SwitchActs.{perform, acked_lease, late_did}
+use Rattle.proto_model.specs.SwitchRows.{switch_step}
+use Rattle.proto_model.specs.Feeds.{Each}
+use Rattle.proto_safety.specs.Books.{In}
+use Rattle.proto_safety.specs.LeaseLaws.{Request, AskOf, NumberOf, First}
+use Rattle.proto_safety.specs.Firsts.{with_request, with_sent}
+use Rattle.proto_safety.proofs.FirstSendings.{Made, MadeBefore, sending, stays, comes, request_keeps, sent_stays, sent_append, sent_keeps}
+use Rattle.proto_safety.proofs.FlowAlarm.{in_append, in_filter, in_map, in_due, to_filter, resent_same}
+use Rattle.proto_safety.proofs.FlowBooks.{in_front, in_last}
+use Rattle.proto_safety.proofs.Lists.{each_append, each_take, each_if}
+use Rattle.proto_safety.proofs.TableKeys.{KeysDiffer, member_found, differ_map}
+use Rattle.proto_safety.proofs.Tables.{get-put_same, get-put_other, get-map_values, same_key-true, same_key-refl, same_some}
+use Rattle.proto_safety.proofs.SwitchTable.{msg, Acts, Ready, Timely, fed, at_grant, at_grant_again, first_ask, ask_idle, ask_anew, ask_lapsed, ask_again, no_copy_room, direct, mirrored, snapped, too_old, granted_only, late, acked, round_done, denied, busied, row_acts}
+use Rattle.proto_safety.proofs.AlarmInduction.{WalkKeeps, walk_kept}
+use Rattle.proto_safety.proofs.Copies.{Fit, CopiesFit, HasSlot, is_leased}
+use Rattle.proto_safety.proofs.FlowCopies.{not_strict}
+use Rattle.proto_safety.proofs.SwitchSays.{Tidy, tidy_lapsed, each_made}
+use Rattle.proto_safety.proofs.SlotCells.{mapped}
+use Rattle.proto_safety.proofs.Chains.{each_in}
+
+-- the first sendings of the Asking slots and the copies of switch n
+pub record NodeFirsts (fs : List First) (n inc : ℕ) (slots : Table Slot) (copies : List Copy) : Type 0 where
+  pub asking : (key : Key) (slot : Slot) (nonce first : ℕ) → get slots key ≡ Some slot → slot.lease ≡ Asking nonce first → In fs (sending n first key (AskOf inc nonce))
+  pub copied : (key : Key) (slot : Slot) (epoch : ℕ) (c : Copy) → get slots key ≡ Some slot → epoch_of slot.lease ≡ Some epoch → In copies c → is_of key c ≡ true → In fs (sending n c.first key (NumberOf epoch c.number))
+
+-- nonces and numbers that were asked are counted
+pub record Counted (fs : List First) (n inc nonces : ℕ) (slots : Table Slot) : Type 0 where
+  pub asks : (key : Key) (k : ℕ) → Made fs n key (AskOf inc k) → k ≤ nonces
+  pub numbers : (key : Key) (slot : Slot) (epoch k : ℕ) → get slots key ≡ Some slot → epoch_of slot.lease ≡ Some epoch → Made fs n key (NumberOf epoch k) → k ≤ slot.last
+
+-- of an epoch that a slot takes no number was asked
+abbrev pub Untouched : List First → ℕ → ℕ → Table Slot → Input → Type 0
+Untouched fs n inc slots input =
+    (from to : Node) (nonce epoch first k : ℕ) (key : Key) (cells : List ℕ) (load : Option Carried) (slot : Slot) → input ≡ msg from to (Body.Grant inc nonce epoch key cells load) →
+    get slots key ≡ Some slot → slot.lease ≡ Asking nonce first → Made fs n key (NumberOf epoch k) → ⊥
+
+-- ---- leases
+
+pub not_asking : (l : Lease) (epoch nonce first : ℕ) → epoch_of l ≡ Some epoch → l ≡ Asking nonce first → ⊥
+not_asking l epoch nonce first e is = let no : None ≡ Some epoch = ap epoch_of (sym is) ∙ e in cc
+
+pub acked_epoch : (t now : ℕ) (l : Lease) (o : Option (ℕ × ℕ)) → epoch_of (acked_lease t now l o) ≡ epoch_of l
+acked_epoch t now l None = refl
+acked_epoch t now Idle (Some b) = refl
+acked_epoch t now (Asking nonce first) (Some b) = refl
+acked_epoch t now (Held nonce epoch expiry) (Some b) = refl
+acked_epoch t now (Lapsed nonce epoch expiry) (Some b) = renew_case (nat_lt now (b.1 + t))
+  where
+    renew_case : (c : Bool) → epoch_of (if c then Held nonce epoch (b.1 + t) else Lapsed nonce epoch expiry) ≡ Some epoch
+    renew_case true = refl
+    renew_case false = refl
+
+pub lapsed_epoch : (now : ℕ) (l : Lease) → epoch_of (lapsed_lease now l) ≡ epoch_of l
+lapsed_epoch now (Held nonce epoch expiry) = held_case (nat_le expiry now)
+  where
+    held_case : (c : Bool) → epoch_of (if c then Lapsed nonce epoch expiry else Held nonce epoch expiry) ≡ Some epoch
+    held_case true = refl
+    held_case false = refl
+lapsed_epoch now Idle = refl
+lapsed_epoch now (Asking nonce first) = refl
+lapsed_epoch now (Lapsed nonce epoch expiry) = refl
+
+pub lapsed_asking : (now nonce first : ℕ) (l : Lease) → lapsed_lease now l ≡ Asking nonce first → l ≡ Asking nonce first
+lapsed_asking now nonce first (Held n epoch expiry) h = absurd (held_case (nat_le expiry now) h)
+  where
+    held_case : (c : Bool) → (if c then Lapsed n epoch expiry else Held n epoch expiry) ≡ Asking nonce first → ⊥
+    held_case true h = cc
+    held_case false h = cc
+lapsed_asking now nonce first Idle h = h
+lapsed_asking now nonce first (Asking n f) h = h
+lapsed_asking now nonce first (Lapsed n epoch expiry) h = h
+
+pub has_leased : (l : Lease) (e : ℕ) → has_epoch l e ≡ true → epoch_of l ≡ Some e
+has_leased Idle e h = absurd (false≢true h)
+has_leased (Asking nonce first) e h = absurd (false≢true h)
+has_leased (Held nonce epoch expiry) e h = ap (λ (x : ℕ). Some x) (eqb-true epoch e h)
+has_leased (Lapsed nonce epoch expiry) e h = ap (λ (x : ℕ). Some x) (eqb-true epoch e h)
+
+-- ---- one slot changes
+
+-- a slot's change, with the first sendings of the slot itself
+put_firsts : (fs gs : List First) (n inc : ℕ) (slots : Table Slot) (copies after : List Copy) (key : Key) (v : Slot) → ((f : First) → In fs f → In gs f) →
+    ((nonce first : ℕ) → v.lease ≡ Asking nonce first → In gs (sending n first key (AskOf inc nonce))) →
+    ((epoch : ℕ) (c : Copy) → epoch_of v.lease ≡ Some epoch → In after c → is_of key c ≡ true → In gs (sending n c.first key (NumberOf epoch c.number))) →
+    ((k : Key) (c : Copy) → same_key key k ≡ false → In after c → is_of k c ≡ true → (d : Copy) × (In copies d × ((is_of k d ≡ true) × ((d.first ≡ c.first) × (d.number ≡ c.number))))) →
+    NodeFirsts fs n inc slots copies → NodeFirsts gs n inc (put slots key v) after
+put_firsts fs gs n inc slots copies after key v more own_ask own_copies others h = record { asking = asking; copied = copied }
+  where
+    asking : (k : Key) (slot : Slot) (nonce first : ℕ) → get (put slots key v) k ≡ Some slot → slot.lease ≡ Asking nonce first → In gs (sending n first k (AskOf inc nonce))
+    asking k slot nonce first at is = key_case (same_key key k) refl
+      where
+        key_case : (b : Bool) → same_key key k ≡ b → In gs (sending n first k (AskOf inc nonce))
+        key_case true t =
+            let e : key ≡ k = same_key-true key k t in
+            let same : v ≡ slot = same_some (get (put slots key v) k) v slot (rw (← e) (get-put_same slots key v)) at in
+            subst (λ (x : Key). In gs (sending n first x (AskOf inc nonce))) e (own_ask nonce first (ap (λ (s : Slot). s.lease) same ∙ is))
+        key_case false ne = more (sending n first k (AskOf inc nonce)) (h.asking k slot nonce first (sym (get-put_other slots k key v ne) ∙ at) is)
+
+    copied : (k : Key) (slot : Slot) (epoch : ℕ) (c : Copy) → get (put slots key v) k ≡ Some slot → epoch_of slot.lease ≡ Some epoch → In after c → is_of k c ≡ true → In gs (sending n c.first k (NumberOf epoch c.number))
+    copied k slot epoch c at is i of = key_case (same_key key k) refl
+      where
+        key_case : (b : Bool) → same_key key k ≡ b → In gs (sending n c.first k (NumberOf epoch c.number))
+        key_case true t =
+            let e : key ≡ k = same_key-true key k t in
+            let same : v ≡ slot = same_some (get (put slots key v) k) v slot (rw (← e) (get-put_same slots key v)) at in
+            subst (λ (x : Key). In gs (sending n c.first x (NumberOf epoch c.number))) e
+            (own_copies epoch c (ap (λ (s : Slot). epoch_of s.lease) same ∙ is) i (subst (λ (x : Key). is_of x c ≡ true) (sym e) of))
+        key_case false ne =
+            let d = others k c ne i of in
+            more (sending n c.first k (NumberOf epoch c.number))
+            (subst (λ (x : ℕ). In fs (sending n x k (NumberOf epoch c.number))) d.1.1.1.0
+            (subst (λ (x : ℕ). In fs (sending n d.0.first k (NumberOf epoch x))) d.1.1.1.1
+            (h.copied k slot epoch d.0 (sym (get-put_other slots k key v ne) ∙ at) is d.1.0 d.1.1.0)))
+
+-- copies that stay
+same_copies : (copies : List Copy) (key : Key) (k : Key) (c : Copy) → same_key key k ≡ false → In copies c → is_of k c ≡ true → (d : Copy) × (In copies d × ((is_of k d ≡ true) × ((d.first ≡ c.first) × (d.number ≡ c.number))))
+same_copies copies key k c ne i of = (c, (i, (of, (refl, refl))))
+
+fewer_copies : (p : Copy → Bool) (copies : List Copy) (key : Key) (k : Key) (c : Copy) → same_key key k ≡ false → In (filter p copies) c → is_of k c ≡ true → (d : Copy) × (In copies d × ((is_of k d ≡ true) × ((d.first ≡ c.first) × (d.number ≡ c.number))))
+fewer_copies p copies key k c ne i of = (c, ((in_filter p copies c i).0, (of, (refl, refl))))
+
+-- one more copy, of the slot itself
+pushed_copies : (copies : List Copy) (new : Copy) (key : Key) → new.key ≡ key → (k : Key) (c : Copy) → same_key key k ≡ false → In (copies ++ new ∷ []) c → is_of k c ≡ true →
+    (d : Copy) × (In copies d × ((is_of k d ≡ true) × ((d.first ≡ c.first) × (d.number ≡ c.number))))
+pushed_copies copies new key own k c ne i of = pushed_case (in_append copies (new ∷ []) c i)
+  where
+    pushed_case : In copies c ⊎ In (new ∷ []) c → (d : Copy) × (In copies d × ((is_of k d ≡ true) × ((d.first ≡ c.first) × (d.number ≡ c.number))))
+    pushed_case (inl there) = (c, (there, (of, (refl, refl))))
+    pushed_case (inr (inl e)) =
+        let other : same_key c.key k ≡ false = subst (λ (x : Key). same_key x k ≡ false) (sym own ∙ ap (λ (d : Copy). d.key) e) ne in
+        absurd (both_ways (same_key c.key k) other of)
+    pushed_case (inr (inr j)) = absurd j
+
+-- ---- one more number of a leased slot
+
+pushed_made : (gs : List First) (n : ℕ) (x : First) (key : Key) (r : Request) → Made (gs ++ x ∷ []) n key r → Made gs n key r ⊎ ((x.key ≡ key) × (x.request ≡ r))
+pushed_made gs n x key r m = made_case (in_append gs (x ∷ []) m.first m.there)
+  where
+    made_case : In gs m.first ⊎ In (x ∷ []) m.first → Made gs n key r ⊎ ((x.key ≡ key) × (x.request ≡ r))
+    made_case (inl i) = inl (record { first = m.first; there = i; switch_is = m.switch_is; key_is = m.key_is; request_is = m.request_is })
+    made_case (inr (inl e)) = inr (ap (λ (f : First). f.key) e ∙ m.key_is, ap (λ (f : First). f.request) e ∙ m.request_is)
+    made_case (inr (inr j)) = absurd j
+
+module _ (gs : List First) (n inc nonces now : ℕ) (slots : Table Slot) (copies : List Copy) (key : Key) (slot v : Slot) (epoch : ℕ) (new : Copy) (at : get slots key ≡ Some slot) (leased : epoch_of slot.lease ≡ Some epoch) (same : v.lease ≡ slot.lease)
+    (h : NodeFirsts gs n inc slots copies) (c : Counted gs n inc nonces slots) where
+  abbrev Now : First
+  Now = sending n now key (NumberOf epoch (slot.last + 1))
+
+  next_new : Made gs n key (NumberOf epoch (slot.last + 1)) → ⊥
+  next_new m = absurd (omega (arith, c.numbers key slot epoch (slot.last + 1) at leased m))
+
+  next_firsts : new.key ≡ key → new.number ≡ slot.last + 1 → new.first ≡ now → NodeFirsts (gs ++ Now ∷ []) n inc (put slots key v) (copies ++ new ∷ [])
+  next_firsts own_key own_number own_first =
+      put_firsts gs (gs ++ Now ∷ []) n inc slots copies (copies ++ new ∷ []) key v (λ f i. in_front gs _ f i)
+      (λ nonce first is. absurd (not_asking slot.lease epoch nonce first leased (sym same ∙ is)))
+      (λ e d is i of. copy_case e d (ap epoch_of (sym same) ∙ is) (in_append copies (new ∷ []) d i) of)
+      (pushed_copies copies new key own_key) h
+    where
+      copy_case : (e : ℕ) (d : Copy) → epoch_of slot.lease ≡ Some e → In copies d ⊎ In (new ∷ []) d → is_of key d ≡ true → In (gs ++ Now ∷ []) (sending n d.first key (NumberOf e d.number))
+      copy_case e d is (inl there) of = in_front gs _ _ (h.copied key slot e d at is there of)
+      copy_case e d is (inr (inl x)) of =
+          let same_epoch : epoch ≡ e = same_some (epoch_of slot.lease) epoch e leased is in
+          let number : d.number ≡ slot.last + 1 = ap (λ (y : Copy). y.number) (sym x) ∙ own_number in
+          let first : d.first ≡ now = ap (λ (y : Copy). y.first) (sym x) ∙ own_first in
+          rw (← same_epoch, number, first) (in_last gs Now)
+      copy_case e d is (inr (inr j)) of = absurd j
+
+  next_counted : v.last ≡ slot.last + 1 → Counted (gs ++ Now ∷ []) n inc nonces (put slots key v)
+  next_counted last = record { asks = asks; numbers = numbers }
+    where
+      asks : (k : Key) (j : ℕ) → Made (gs ++ Now ∷ []) n k (AskOf inc j) → j ≤ nonces
+      asks k j m = asks_case (pushed_made gs n Now k (AskOf inc j) m)
+        where
+          asks_case : Made gs n k (AskOf inc j) ⊎ ((key ≡ k) × (NumberOf epoch (slot.last + 1) ≡ AskOf inc j)) → j ≤ nonces
+          asks_case (inl m) = c.asks k j m
+          asks_case (inr e) = absurd cc
+
+      numbers : (k : Key) (x : Slot) (e j : ℕ) → get (put slots key v) k ≡ Some x → epoch_of x.lease ≡ Some e → Made (gs ++ Now ∷ []) n k (NumberOf e j) → j ≤ x.last
+      numbers k x e j found is m = key_case (same_key key k) refl
+        where
+          own : v ≡ x → key ≡ k → Made gs n k (NumberOf e j) ⊎ ((key ≡ k) × (NumberOf epoch (slot.last + 1) ≡ NumberOf e j)) → j ≤ x.last
+          own same_slot same_key (inl m) =
+              let l : v.last ≡ x.last = ap (λ (s : Slot). s.last) same_slot in
+              let o : epoch_of slot.lease ≡ Some e = ap epoch_of (sym same) ∙ ap (λ (s : Slot). epoch_of s.lease) same_slot ∙ is in
+              omega (arith, last, l, c.numbers key slot e j at o (subst (λ (q : Key). Made gs n q (NumberOf e j)) (sym same_key) m))
+          own same_slot same_key (inr p) =
+              let l : v.last ≡ x.last = ap (λ (s : Slot). s.last) same_slot in
+              let number : slot.last + 1 ≡ j = cc in
+              omega (arith, last, l, number)
+
+          other : same_key key k ≡ false → Made gs n k (NumberOf e j) ⊎ ((key ≡ k) × (NumberOf epoch (slot.last + 1) ≡ NumberOf e j)) → j ≤ x.last
+          other ne (inl m) = c.numbers k x e j (sym (get-put_other slots k key v ne) ∙ found) is m
+          other ne (inr p) = absurd (both_ways (same_key key k) ne (subst (λ (q : Key). same_key key q ≡ true) p.0 (same_key-refl key)))
+
+          key_case : (b : Bool) → same_key key k ≡ b → j ≤ x.last
+          key_case true t =
+              let e' : key ≡ k = same_key-true key k t in
+              own (same_some (get (put slots key v) k) v x (rw (← e') (get-put_same slots key v)) found) e' (pushed_made gs n Now k (NumberOf e j) m)
+          key_case false ne = other ne (pushed_made gs n Now k (NumberOf e j) m)
+
+-- ---- the walk of an Alarm
+
+pub record WalkFirsts (fs : List First) (n now : ℕ) (w : Walk) : Type 0 where
+  pub firsts : NodeFirsts (with_sent n now fs w.sent) n w.state.inc w.state.slots w.state.copies
+  pub counted : Counted (with_sent n now fs w.sent) n w.state.inc w.state.nonces w.state.slots
+  pub strict : w.state.terms.mode ≡ Mode.Strict
+
+walk_firsts : (fs : List First) (n now : ℕ) → WalkKeeps now (WalkFirsts fs n now)
+walk_firsts fs n now =
+    record {
+      puts = λ w key slot nonce epoch expiry at is mode none h. put_case w key slot nonce epoch expiry at is h;
+      goes_on = λ w key slot nonce epoch expiry r at is bound mode o h. absurd (not_strict w.state.terms.mode bound h.strict mode);
+      begins = λ w key slot nonce epoch expiry at is bound mode o h. absurd (not_strict w.state.terms.mode bound h.strict mode);
+    }
+  where
+    put_case : (w : Walk) (key : Key) (slot : Slot) (nonce epoch expiry : ℕ) → slot_at w.state key ≡ Some slot → slot.lease ≡ Held nonce epoch expiry → WalkFirsts fs n now w → WalkFirsts fs n now (empty_put w now key slot epoch)
+    put_case w key slot nonce epoch expiry at is h =
+        let gs : List First = with_sent n now fs w.sent in
+        let v : Slot = record slot { last = slot.last + 1; used = false } in
+        let new : Copy = record { key = key; number = slot.last + 1; delta = []; first = now; sent = now } in
+        let leased : epoch_of slot.lease ≡ Some epoch = ap epoch_of is in
+        let grown : with_sent n now fs (empty_put w now key slot epoch).sent ≡ gs ++ sending n now key (NumberOf epoch (slot.last + 1)) ∷ [] =
+        sent_append n now fs w.sent _ ∙ comes n now gs key (NumberOf epoch (slot.last + 1)) (next_new gs n w.state.inc w.state.nonces now w.state.slots w.state.copies key slot v epoch new at leased refl h.firsts h.counted) in
+        record {
+          firsts = subst (λ (l : List First). NodeFirsts l n w.state.inc (put w.state.slots key v) (w.state.copies ++ new ∷ [])) (sym grown)
+              (next_firsts gs n w.state.inc w.state.nonces now w.state.slots w.state.copies key slot v epoch new at leased refl h.firsts h.counted refl refl refl);
+          counted = subst (λ (l : List First). Counted l n w.state.inc w.state.nonces (put w.state.slots key v)) (sym grown)
+              (next_counted gs n w.state.inc w.state.nonces now w.state.slots w.state.copies key slot v epoch new at leased refl h.firsts h.counted refl);
+          strict = h.strict;
+        }
+
+-- ---- rows
+
+module _ (app : Application) (fs : List First) (n : ℕ) (s : Switch) (now : ℕ) (h : NodeFirsts fs n s.inc s.slots s.copies) (fit : Fit s) (c : Counted fs n s.inc s.nonces s.slots) where
+  abbrev Stands : List First → Table Slot → List Copy → Type 0
+  Stands gs slots copies = NodeFirsts gs n s.inc slots copies
+
+  -- an Asking slot has no copies
+  no_copies : (key : Key) (old : Slot) (nonce first : ℕ) (d : Copy) → get s.slots key ≡ Some old → old.lease ≡ Asking nonce first → In s.copies d → is_of key d ≡ true → ⊥
+  no_copies key old nonce first d at is i of =
+      let k = each_in (HasSlot s.slots) s.copies d fit i in
+      let e : d.key ≡ key = same_key-true d.key key of in
+      let same : old ≡ k.slot = same_some (get s.slots key) old k.slot at (subst (λ (x : Key). get s.slots x ≡ Some k.slot) e k.found) in
+      false≢true (sym (ap is_leased is) ∙ ap (λ (x : Slot). is_leased x.lease) same ∙ k.leased)
+
+  -- the slot keeps its lease, and no copy comes
+  kept : (key : Key) (old v : Slot) (after : List Copy) → get s.slots key ≡ Some old → ((nonce first : ℕ) → v.lease ≡ Asking nonce first → old.lease ≡ Asking nonce first) →
+      ((e : ℕ) → epoch_of v.lease ≡ Some e → epoch_of old.lease ≡ Some e) → ((d : Copy) → In after d → In s.copies d) → Stands fs (put s.slots key v) after
+  kept key old v after at a e less =
+      put_firsts fs fs n s.inc s.slots s.copies after key v (λ f i. i)
+      (λ nonce first is. h.asking key old nonce first at (a nonce first is))
+      (λ epoch d is i of. h.copied key old epoch d at (e epoch is) (less d i) of)
+      (λ k d ne i of. (d, (less d i, (of, (refl, refl)))))
+      h
+
+  -- the slot has nothing that waits
+  cleared : (key : Key) (v : Slot) → ((nonce first : ℕ) → v.lease ≡ Asking nonce first → ⊥) → Stands fs (put s.slots key v) (filter (λ d. not (is_of key d)) s.copies)
+  cleared key v idle =
+      put_firsts fs fs n s.inc s.slots s.copies (filter (λ d. not (is_of key d)) s.copies) key v (λ f i. i) (λ nonce first is. absurd (idle nonce first is))
+      (λ epoch d is i of. absurd (given_up d of (in_filter (λ d. not (is_of key d)) s.copies d i).1)) (fewer_copies (λ d. not (is_of key d)) s.copies key) h
+    where
+      given_up : (d : Copy) → is_of key d ≡ true → not (is_of key d) ≡ true → ⊥
+      given_up d of gone = let no : not true ≡ true = subst (λ b. not b ≡ true) of gone in cc
+
+  -- a new Ask
+  asked : (key : Key) (v : Slot) (load : Option Carried) → v.lease ≡ Asking (s.nonces + 1) now →
+      Stands (with_request n now fs (Some (key, AskOf s.inc (s.nonces + 1)))) (put s.slots key v) (filter (λ d. not (is_of key d)) s.copies)
+  asked key v load is =
+      subst (λ (gs : List First). Stands gs (put s.slots key v) (filter (λ d. not (is_of key d)) s.copies)) (sym (comes n now fs key (AskOf s.inc (s.nonces + 1)) (λ m. absurd (omega (arith, c.asks key (s.nonces + 1) m)))))
+      (put_firsts fs (fs ++ sending n now key (AskOf s.inc (s.nonces + 1)) ∷ []) n s.inc s.slots s.copies (filter (λ d. not (is_of key d)) s.copies) key v (λ f i. in_front fs _ f i)
+      (λ nonce first e. own nonce first (sym is ∙ e))
+      (λ epoch d e i of. absurd (not_asking v.lease epoch (s.nonces + 1) now e is)) (fewer_copies (λ d. not (is_of key d)) s.copies key) h)
+    where
+      own : (nonce first : ℕ) → Asking (s.nonces + 1) now ≡ Asking nonce first → In (fs ++ sending n now key (AskOf s.inc (s.nonces + 1)) ∷ []) (sending n first key (AskOf s.inc nonce))
+      own nonce first e =
+          let same_nonce : s.nonces + 1 ≡ nonce = cc in
+          let same_first : now ≡ first = cc in
+          rw (← same_nonce, ← same_first) (in_last fs (sending n now key (AskOf s.inc (s.nonces + 1))))
+
+  -- ---- processed packets
+
+  ready_epoch : {input : Input} {key : Key} {slot : Slot} {epoch : ℕ} {p : Packet} → Ready app s now input key slot epoch p → epoch_of slot.lease ≡ Some epoch
+  ready_epoch (fed of at is) = ap epoch_of is
+  ready_epoch (at_grant t in_asked) = refl
+  ready_epoch (at_grant_again i at is in_asked) = ap epoch_of is
+
+  ready_copies : {input : Input} {key : Key} {slot : Slot} {epoch : ℕ} {p : Packet} → Ready app s now input key slot epoch p → (e : ℕ) (d : Copy) → epoch_of slot.lease ≡ Some e → In s.copies d → is_of key d ≡ true →
+      In fs (sending n d.first key (NumberOf e d.number))
+  ready_copies {key = key} (fed {slot = slot} of at is) e d leased i own = h.copied key slot e d at leased i own
+  ready_copies {key = key} (at_grant {nonce = nonce} {first = first} {slot = slot} t in_asked) e d leased i own = absurd (no_copies key slot nonce first d t.at t.asking i own)
+  ready_copies {key = key} (at_grant_again {slot = slot} i at is in_asked) e d leased j own = h.copied key slot e d at leased j own
+
+  ready_new : {input : Input} {key : Key} {slot : Slot} {epoch : ℕ} {p : Packet} → Untouched fs n s.inc s.slots input → Ready app s now input key slot epoch p → Made fs n key (NumberOf epoch (slot.last + 1)) → ⊥
+  ready_new u (fed {key = key} {slot = slot} {epoch = epoch} of at is) m = absurd (omega (arith, c.numbers key slot epoch (slot.last + 1) at (ap epoch_of is) m))
+  ready_new u (at_grant {from = from} {to = to} {inc = inc} {nonce = nonce} {epoch = epoch} {first = first} {key = key} {cells = cells} {c = carried} {slot = slot} t in_asked) m =
+      u from to nonce epoch first 1 key cells (Some carried) slot (ap (λ (i : ℕ). msg from to (Body.Grant i nonce epoch key cells (Some carried))) (eqb-true inc s.inc t.here)) t.at t.asking m
+  ready_new u (at_grant_again {epoch = epoch} {key = key} {slot = slot} i at is in_asked) m = absurd (omega (arith, c.numbers key slot epoch (slot.last + 1) at (ap epoch_of is) m))
+
+  -- an Asking slot takes a lease
+  granted_firsts : (key : Key) (old v : Slot) (nonce first : ℕ) → get s.slots key ≡ Some old → old.lease ≡ Asking nonce first → ((m f : ℕ) → v.lease ≡ Asking m f → ⊥) → Stands fs (put s.slots key v) s.copies
+  granted_firsts key old v nonce first at is held =
+      put_firsts fs fs n s.inc s.slots s.copies s.copies key v (λ f i. i) (λ m f e. absurd (held m f e)) (λ e d x i of. absurd (no_copies key old nonce first d at is i of)) (same_copies s.copies key) h
+
+  -- the slot of a processed packet, with no new copy
+  processed : {input : Input} {key : Key} {slot : Slot} {epoch : ℕ} {p : Packet} (v : Slot) → Ready app s now input key slot epoch p → v.lease ≡ slot.lease → Stands fs (put s.slots key v) s.copies
+  processed {key = key} {slot = slot} {epoch = epoch} v r same =
+      put_firsts fs fs n s.inc s.slots s.copies s.copies key v (λ f i. i)
+      (λ nonce first is. absurd (not_asking slot.lease epoch nonce first (ready_epoch r) (sym same ∙ is)))
+      (λ e d is i of. ready_copies r e d (ap epoch_of (sym same) ∙ is) i of) (same_copies s.copies key) h
+
+  -- and with one
+  mirrored_firsts : {input : Input} {key : Key} {slot : Slot} {epoch : ℕ} {p : Packet} (v : Slot) (new : Copy) → Untouched fs n s.inc s.slots input → Ready app s now input key slot epoch p → v.lease ≡ slot.lease →
+      new.key ≡ key → new.number ≡ slot.last + 1 → new.first ≡ now →
+      Stands (with_request n now fs (Some (key, NumberOf epoch (slot.last + 1)))) (put s.slots key v) (s.copies ++ new ∷ [])
+  mirrored_firsts {key = key} {slot = slot} {epoch = epoch} v new u r same own_key own_number own_first =
+      subst (λ (gs : List First). Stands gs (put s.slots key v) (s.copies ++ new ∷ [])) (sym (comes n now fs key (NumberOf epoch (slot.last + 1)) (ready_new u r)))
+      (put_firsts fs (fs ++ sending n now key (NumberOf epoch (slot.last + 1)) ∷ []) n s.inc s.slots s.copies (s.copies ++ new ∷ []) key v (λ f i. in_front fs _ f i)
+      (λ nonce first is. absurd (not_asking slot.lease epoch nonce first (ready_epoch r) (sym same ∙ is)))
+      (λ e d is i of. copy_case e d (ap epoch_of (sym same) ∙ is) (in_append s.copies (new ∷ []) d i) of)
+      (pushed_copies s.copies new key own_key) h)
+    where
+      copy_case : (e : ℕ) (d : Copy) → epoch_of slot.lease ≡ Some e → In s.copies d ⊎ In (new ∷ []) d → is_of key d ≡ true → In (fs ++ sending n now key (NumberOf epoch (slot.last + 1)) ∷ []) (sending n d.first key (NumberOf e d.number))
+      copy_case e d is (inl there) of = in_front fs _ _ (ready_copies r e d is there of)
+      copy_case e d is (inr (inl x)) of =
+          let same_epoch : epoch ≡ e = same_some (epoch_of slot.lease) epoch e (ready_epoch r) is in
+          let number : d.number ≡ slot.last + 1 = ap (λ (y : Copy). y.number) (sym x) ∙ own_number in
+          let first : d.first ≡ now = ap (λ (y : Copy). y.first) (sym x) ∙ own_first in
+          rw (← same_epoch, number, first) (in_last fs (sending n now key (NumberOf epoch (slot.last + 1))))
+      copy_case e d is (inr (inr j)) of = absurd j
+
+  -- ---- an Alarm
+
+  abbrev Resent : Walk
+  Resent = resent s now (due_copies now (s.terms.t_switch / 4) 64 s.copies) (other_copies now (s.terms.t_switch / 4) 64 s.copies)
+
+  -- a copy that goes again was sent before
+  resent_made : (d : Copy) → In s.copies d → MadeBefore fs n (resent_put s d)
+  resent_made d i r is =
+      let k = each_in (HasSlot s.slots) s.copies d fit i in
+      leased_case k.slot k.found (leased_epoch k.slot.lease k.leased)
+    where
+      leased_epoch : (l : Lease) → is_leased l ≡ true → (e : ℕ) × (epoch_of l ≡ Some e)
+      leased_epoch Idle l = absurd (false≢true l)
+      leased_epoch (Asking nonce first) l = absurd (false≢true l)
+      leased_epoch (Held nonce epoch expiry) l = (epoch, refl)
+      leased_epoch (Lapsed nonce epoch expiry) l = (epoch, refl)
+
+      leased_case : (slot : Slot) → get s.slots d.key ≡ Some slot → (e : ℕ) × (epoch_of slot.lease ≡ Some e) → Made fs n r.0 r.1
+      leased_case slot at e =
+          let here : epoch_at s d.key ≡ e.0 = rw (at, e.1) refl in
+          let first : In fs (sending n d.first d.key (NumberOf e.0 d.number)) = h.copied d.key slot e.0 d at e.1 i (same_key-refl d.key) in
+          let body : (d.key, NumberOf (epoch_at s d.key) d.number) ≡ r = cc in
+          subst (λ (x : Key × Request). Made fs n x.0 x.1) body (rw here (record { first = sending n d.first d.key (NumberOf e.0 d.number); there = first; switch_is = refl; key_is = refl; request_is = refl }))
+
+  -- and so was an Ask
+  ask_made : (key : Key) (slot : Slot) → get s.slots key ≡ Some slot → Each (MadeBefore fs n) (repeated_ask s now key slot.lease)
+  ask_made key slot at = lease_case slot.lease refl
+    where
+      made : (nonce first : ℕ) → slot.lease ≡ Asking nonce first → (r : Key × Request) → Some (key, AskOf s.inc nonce) ≡ Some r → Made fs n r.0 r.1
+      made nonce first is r e =
+          let body : (key, AskOf s.inc nonce) ≡ r = cc in
+          subst (λ (x : Key × Request). Made fs n x.0 x.1) body (record { first = sending n first key (AskOf s.inc nonce); there = h.asking key slot nonce first at is; switch_is = refl; key_is = refl; request_is = refl })
+
+      lease_case : (l : Lease) → slot.lease ≡ l → Each (MadeBefore fs n) (repeated_ask s now key l)
+      lease_case Idle is = tt
+      lease_case (Asking nonce first) is = each_if (MadeBefore fs n) (is_young s.terms.t_switch first now) _ [] (made nonce first is, tt) tt
+      lease_case (Held nonce epoch expiry) is = tt
+      lease_case (Lapsed nonce epoch expiry) is = tt
+
+  asks_made : (es : Table Slot) → ((e : Key × Slot) → In es e → get s.slots e.0 ≡ Some e.1) → Each (MadeBefore fs n) (repeated_asks s now es)
+  asks_made [] k = tt
+  asks_made (e ∷ es) k = each_append (MadeBefore fs n) (repeated_ask s now e.0 e.1.lease) _ (ask_made e.0 e.1 (k e (inl refl))) (asks_made es (λ x i. k x (inr i)))
+
+  resent_stays : KeysDiffer s.slots → with_sent n now fs Resent.sent ≡ fs
+  resent_stays keys =
+      sent_stays n now fs Resent.sent
+      (each_take (MadeBefore fs n) 64 _
+      (each_append (MadeBefore fs n) _ (repeated_asks s now s.slots)
+      (each_made (MadeBefore fs n) (resent_put s) (due_copies now (s.terms.t_switch / 4) 64 s.copies) (λ d i. resent_made d (in_due now (s.terms.t_switch / 4) 64 s.copies d i)))
+      (asks_made s.slots (λ e i. member_found s.slots e keys i))))
+
+  -- the copies after the first part of an Alarm
+  resent_copies : Stands fs s.slots Resent.state.copies
+  resent_copies =
+      record {
+        asking = h.asking;
+        copied = λ key slot epoch d at is i of.
+            let w = (resent_same now (s.terms.t_switch / 4) 64 key s.copies).were d (to_filter (is_of key) _ d i of) in
+            let x = in_filter (is_of key) s.copies w.0 w.1.0 in
+            subst (λ (y : ℕ). In fs (sending n y key (NumberOf epoch d.number))) (sym w.1.1.first)
+            (subst (λ (y : ℕ). In fs (sending n w.0.first key (NumberOf epoch y))) (sym w.1.1.number) (h.copied key slot epoch w.0 at is x.0 x.1));
+      }
+
+  -- what a step leaves
+  abbrev After : Switch → List Msg → Type 0
+  After t ms = NodeFirsts (with_sent n now fs ms) n t.inc t.slots t.copies
+
+  alarm_firsts : KeysDiffer s.slots → s.terms.mode ≡ Mode.Strict → After (alarm s now).0 (alarm s now).1.sent
+  alarm_firsts keys mode =
+      (walk_kept now (WalkFirsts fs n now) (walk_firsts fs n now) (walk_order s.walked (map (λ (e : Key × Slot). e.0) s.slots)) Resent
+      (record {
+        firsts = subst (λ (gs : List First). Stands gs s.slots Resent.state.copies) (sym (resent_stays keys)) resent_copies;
+        counted = subst (λ (gs : List First). Counted gs n s.inc s.nonces s.slots) (sym (resent_stays keys)) c;
+        strict = mode;
+      })).firsts
+
+  late_sends : (mark : Option ℕ) → with_sent n now fs (late_did mark).sent ≡ fs
+  late_sends None = refl
+  late_sends (Some m) = refl
+
+  -- every row
+  row_firsts : KeysDiffer s.slots → s.terms.mode ≡ Mode.Strict → {input : Input} (row : SwitchRow) → Untouched fs n s.inc s.slots input → Acts app s now input row → After (perform s now row).0 (perform s now row).1.sent
+  row_firsts keys mode (NewAsk key slot packet) u (first_ask of at room) = asked key _ None refl
+  row_firsts keys mode (NewAsk key slot packet) u (ask_idle of at is) = asked key _ None refl
+  row_firsts keys mode (NewAsk key slot packet) u (ask_anew of at is old) = asked key _ None refl
+  row_firsts keys mode (NewAsk key slot packet) u (ask_lapsed of at is) = asked key _ None refl
+  row_firsts keys mode (AskAgain key slot nonce packet) u (ask_again {first = first} of at is young) =
+      subst (λ (gs : List First). Stands gs (put s.slots key (record slot { asked = remember slot.asked packet.mark })) s.copies)
+      (sym (stays n now fs key (AskOf s.inc nonce) (record { first = sending n first key (AskOf s.inc nonce); there = h.asking key slot nonce first at is; switch_is = refl; key_is = refl; request_is = refl })))
+      (kept key slot (record slot { asked = remember slot.asked packet.mark }) s.copies at (λ nonce first e. e) (λ e is. is) (λ d i. i))
+  row_firsts keys mode (Drops key slot mark cause) u (no_copy_room r m full) = processed slot r refl
+  row_firsts keys mode (Drops key slot mark cause) u (too_old {bound = bound} r m old) = absurd (not_strict s.terms.mode bound mode m)
+  row_firsts keys mode (Direct key slot epoch mark delta out) u (direct r m made clean none) = processed _ r refl
+  row_firsts keys mode (Direct key slot epoch mark delta out) u (snapped {bound = bound} r m made young) = absurd (not_strict s.terms.mode bound mode m)
+  row_firsts keys mode (Mirrored key slot epoch mark delta out) u (mirrored r m made room dirty) = mirrored_firsts _ _ u r refl refl refl refl
+  row_firsts keys mode (Granted key slot) u (granted_only {nonce = nonce} {first = first} {slot = old} t none) = granted_firsts key old slot nonce first t.at t.asking (λ m f e. let no : Held _ _ _ ≡ Asking m f = e in cc)
+  row_firsts keys mode (Late key slot mark) u (late i at is old) =
+      subst (λ (gs : List First). Stands gs (put s.slots key (emptied slot Idle)) (filter (λ d. not (is_of key d)) s.copies)) (sym (late_sends mark)) (cleared key (emptied slot Idle) (λ nonce first e. let no : Idle ≡ Asking nonce first = e in cc))
+  row_firsts keys mode (Acked key slot upto load) u (acked {epoch = epoch} m i at e) =
+      kept key slot _ _ at (λ nonce first is. absurd (not_asking _ epoch nonce first (acked_epoch s.terms.t_switch now slot.lease _ ∙ has_leased slot.lease epoch e) is))
+      (λ x is. sym (acked_epoch s.terms.t_switch now slot.lease _) ∙ is) (λ d j. (in_filter (λ d. not (is_covered key upto d)) s.copies d j).0)
+  row_firsts keys mode (RoundDone key slot r) u (round_done {bound = bound} m i at e o x) = absurd (not_strict s.terms.mode bound mode m)
+  row_firsts keys mode (Denied key slot) u (denied i at e) = cleared key _ (λ nonce first x. let no : Idle ≡ Asking nonce first = x in cc)
+  row_firsts keys mode (Busied key slot mark) u (busied i at is in_asked) = kept key slot _ s.copies at (λ nonce first e. e) (λ e is. is) (λ d i. i)
+  row_firsts keys mode Resends u a = alarm_firsts keys mode
+  row_firsts keys mode _ u a = h
+
+-- ---- one step
+
+-- leases that ended are Lapsed
+lapsed_firsts : (fs : List First) (n inc now : ℕ) (slots : Table Slot) (copies : List Copy) → NodeFirsts fs n inc slots copies → NodeFirsts fs n inc (map_values (lapsed_slot now) slots) copies
+lapsed_firsts fs n inc now slots copies h =
+    record {
+      asking = λ key slot nonce first at is. let m = lapsed_from key slot at in h.asking key m.0 nonce first m.1 (lapsed_asking now nonce first m.0.lease (ap (λ (s : Slot). s.lease) m.2 ∙ is));
+      copied = λ key slot epoch c at is i of. let m = lapsed_from key slot at in h.copied key m.0 epoch c m.1 (sym (lapsed_epoch now m.0.lease) ∙ ap (λ (s : Slot). epoch_of s.lease) m.2 ∙ is) i of;
+    }
+  where
+    lapsed_from : (key : Key) (slot : Slot) → get (map_values (lapsed_slot now) slots) key ≡ Some slot → (old : Slot) × (get slots key ≡ Some old) × (lapsed_slot now old ≡ slot)
+    lapsed_from key slot at = mapped now (get slots key) slot (sym (get-map_values (lapsed_slot now) slots key) ∙ at)
+
+lapsed_counted : (fs : List First) (n inc nonces now : ℕ) (slots : Table Slot) → Counted fs n inc nonces slots → Counted fs n inc nonces (map_values (lapsed_slot now) slots)
+lapsed_counted fs n inc nonces now slots c =
+    record {
+      asks = c.asks;
+      numbers = λ key slot epoch k at is m.
+          let x = mapped now (get slots key) slot (sym (get-map_values (lapsed_slot now) slots key) ∙ at) in
+          let l : x.0.last ≡ slot.last = ap (λ (s : Slot). s.last) x.2 in
+          omega (arith, l, c.numbers key x.0 epoch k x.1 (sym (lapsed_epoch now x.0.lease) ∙ ap (λ (s : Slot). epoch_of s.lease) x.2 ∙ is) m);
+    }
+
+lapsed_untouched : (fs : List First) (n inc now : ℕ) (slots : Table Slot) (input : Input) → Untouched fs n inc slots input → Untouched fs n inc (map_values (lapsed_slot now) slots) input
+lapsed_untouched fs n inc now slots input u from to nonce epoch first k key cells load slot came at is m =
+    let x = mapped now (get slots key) slot (sym (get-map_values (lapsed_slot now) slots key) ∙ at) in
+    u from to nonce epoch first k key cells load x.0 came x.1 (lapsed_asking now nonce first x.0.lease (ap (λ (s : Slot). s.lease) x.2 ∙ is)) m
+
+-- what a step leaves has its first sendings
+pub step_firsts : (app : Application) (fs : List First) (n : ℕ) (s : Switch) (now : ℕ) (input : Input) → Tidy s → s.terms.mode ≡ Mode.Strict → Counted fs n s.inc s.nonces s.slots → Untouched fs n s.inc s.slots input →
+    NodeFirsts fs n s.inc s.slots s.copies → let step = switch_step app s now input in NodeFirsts (with_sent n now fs step.1.sent) n step.0.inc step.0.slots step.0.copies
+step_firsts app fs n s now input tidy mode c u h =
+    let t = tidy_lapsed s now tidy in
+    row_firsts app fs n (lapsed now s) now (lapsed_firsts fs n s.inc now s.slots s.copies h) t.copies (lapsed_counted fs n s.inc s.nonces now s.slots c) t.keys mode (switch_row app (lapsed now s) now input)
+    (lapsed_untouched fs n s.inc now s.slots input u) (row_acts app (lapsed now s) now input)

@@ -1,0 +1,5 @@
+use Rattle.proto_safety.proofs.MarksStand as stands
+use Rattle.proto_safety.proofs.marks.marks_are_released_once.Goals as goal
+
+pub returns : goal.returns
+returns c = stands.released_once

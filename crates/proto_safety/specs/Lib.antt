@@ -1,0 +1,14 @@
+pub mod Books
+pub mod Loads
+pub mod Flows
+pub mod LeaseLaws
+pub mod Epochs
+pub mod CellLaws
+pub mod WorkedRows
+pub mod SnapshotRow
+pub mod LinkedRows
+pub mod StraightRuns
+pub mod Firsts
+pub mod SwitchSent
+pub mod Origins
+pub mod Frames

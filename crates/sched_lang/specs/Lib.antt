@@ -1,0 +1,7 @@
+pub mod Causes
+pub mod Words
+pub mod Built
+pub mod Header
+pub mod EventForms
+pub mod Reading
+pub mod Ready

@@ -1,0 +1,15 @@
+//! The text of schedules: what a run is given, and where a text is refused.
+#![tactic(auto)]
+
+mod built;
+mod event;
+mod header;
+mod reading;
+mod schedule;
+mod words;
+
+pub use reading::read;
+pub use schedule::{Events, SchedEnd, SchedWhy, Schedule};
+
+#[cfg(test)]
+mod tests;
