@@ -74,7 +74,7 @@ abbrev pub Above : Option Flow → ℕ → Type 0
 Above None k = 1 ≤ k
 Above (Some f) k = f.epoch + 1 ≤ k
 
-key_of_epoch : (key : Key) (epoch : ℕ) (e : Entry) → HasEpoch key epoch e → same_key (entry_key e) key ≡ true
+pub key_of_epoch : (key : Key) (epoch : ℕ) (e : Entry) → HasEpoch key epoch e → same_key (entry_key e) key ≡ true
 key_of_epoch key epoch (Entry.Grant k x switch inc nonce) h = rw h.0 (same_key-refl key)
 key_of_epoch key epoch (Entry.Put k x number delta) h = rw h.0 (same_key-refl key)
 key_of_epoch key epoch (Entry.Snap k x round values) h = rw h.0 (same_key-refl key)

@@ -79,7 +79,7 @@ before_then confs now nodes s c n node h i at up (newer j above) a in_c below = 
 -- ---- the book after a step
 
 -- the entry that comes stands in each book before
-comes_prefix : (confs : List Config) (now : Config) (nodes : List ReplicaNode) (s : Replica) (book : List Booked) (n a : ℕ) (node : ReplicaNode) (x : Entry) (from to : Node) (body : Body) → Configs confs now nodes → In confs s.config →
+pub comes_prefix : (confs : List Config) (now : Config) (nodes : List ReplicaNode) (s : Replica) (book : List Booked) (n a : ℕ) (node : ReplicaNode) (x : Entry) (from to : Node) (body : Body) → Configs confs now nodes → In confs s.config →
     s.me ≡ n → slice_get nodes n ≡ Some node → lives node ≡ true → s.applied ≡ length book → In s.config.chain a → a < n → IsPrefix (entries_of book) (book_of nodes a) →
     to ≡ Node.Replica n → FrameBooks confs nodes from to body → ComesBy s x body → IsPrefix (entries_of book ++ x ∷ []) (book_of nodes a)
 comes_prefix confs now nodes s book n a node x from to body h i me at up count in_a below p is k (at_head head) =

@@ -17,7 +17,7 @@ use Rattle.proto_safety.proofs.BookEpochs.{Stepped, other, first, next, put, sna
 
 -- ---- what a number says of its entry
 
-abbrev IsNumber : Entry → ℕ → Type 0
+abbrev pub IsNumber : Entry → ℕ → Type 0
 IsNumber (Entry.Grant k e switch inc nonce) m = m ≡ 0
 IsNumber (Entry.Put k e number delta) m = m ≡ number
 IsNumber (Entry.Snap k e round values) m = m ≡ round

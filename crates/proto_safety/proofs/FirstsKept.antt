@@ -27,7 +27,7 @@ use Rattle.proto_safety.specs.LeaseLaws.{Request, First, IsEntryOf}
 use Rattle.proto_safety.specs.Firsts.{request_of, firsts_of, with_sent}
 use Rattle.proto_safety.proofs.FirstSendings.{Made}
 use Rattle.proto_safety.proofs.StrictSends.{NoSnap, NoSnaps}
-use Rattle.proto_safety.proofs.SwitchFirsts.{NodeFirsts}
+use Rattle.proto_safety.proofs.SlotFirsts.{NodeFirsts}
 use Rattle.proto_safety.proofs.Places.{at_set, at_changed}
 use Rattle.proto_safety.proofs.Lists.{each_append, length_changed_at, each_map, each_weaker, each_at}
 use Rattle.proto_safety.proofs.SwitchNodes.{AllAt, all_changed, all_advanced, all_opened}
@@ -250,7 +250,7 @@ pub settled_kept : (app : Application) → Keeps app (Settled app.cell_count)
 settled_kept app = keeps_both app (Ground app.cell_count) PutsOf (ground_kept app) (puts_kept app)
 
 -- where frames and entries come from
-sources_of : (cells : ℕ) (w : World) → Ground cells w → Sources w
+pub sources_of : (cells : ℕ) (w : World) → Ground cells w → Sources w
 sources_of cells w g =
     record {
       origin = λ r node b at i. each_at (NodeOrigins w.frames) w.replicas r node g.0.1.1.books at b.entry (to_map (λ (x : Booked). x.entry) node.book b i);

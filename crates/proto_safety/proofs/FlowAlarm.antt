@@ -82,7 +82,7 @@ in_due now age (suc room) (d ∷ ds) c i = due_case (is_due now age d) (in_due n
     due_case true p q (inr j) = inr (p j)
     due_case false p q j = inr (q j)
 
-in_other : (now age room : ℕ) (cs : List Copy) (c : Copy) → In (other_copies now age room cs) c → In cs c
+pub in_other : (now age room : ℕ) (cs : List Copy) (c : Copy) → In (other_copies now age room cs) c → In cs c
 in_other now age room [] c i = absurd i
 in_other now age zero (d ∷ ds) c i = i
 in_other now age (suc room) (d ∷ ds) c i = other_case (is_due now age d) (in_other now age room ds c) (in_other now age (suc room) ds c) i

@@ -37,7 +37,7 @@ abbrev has_mark : ℕ → Fed → Bool
 has_mark m f = f.packet.mark == m
 
 -- what was found is found still
-found_still : (fed : List Fed) (f : Fed) (m : ℕ) (p : Packet) → packet_at fed m ≡ Some p → packet_at (fed ++ f ∷ []) m ≡ Some p
+pub found_still : (fed : List Fed) (f : Fed) (m : ℕ) (p : Packet) → packet_at fed m ≡ Some p → packet_at (fed ++ f ∷ []) m ≡ Some p
 found_still [] f m p h = cc
 found_still (g ∷ gs) f m p h = still_case g gs f m p (has_mark m g) h (found_still gs f m p)
   where
@@ -47,7 +47,7 @@ found_still (g ∷ gs) f m p h = still_case g gs f m p (has_mark m g) h (found_s
     still_case g gs f m p false h rest = rest h
 
 -- a new mark is found
-found_new : (fed : List Fed) (f : Fed) (event : ℕ) → f.packet.mark ≡ event + 1 → Each (λ (g : Fed). g.packet.mark ≤ event) fed → packet_at (fed ++ f ∷ []) f.packet.mark ≡ Some f.packet
+pub found_new : (fed : List Fed) (f : Fed) (event : ℕ) → f.packet.mark ≡ event + 1 → Each (λ (g : Fed). g.packet.mark ≤ event) fed → packet_at (fed ++ f ∷ []) f.packet.mark ≡ Some f.packet
 found_new [] f event mark h = rw (eq-eqb f.packet.mark f.packet.mark refl)
 found_new (g ∷ gs) f event mark h =
     let ne : (g.packet.mark ≡ f.packet.mark → ⊥) = λ e. omega (arith, h.0) in
@@ -96,7 +96,7 @@ announced_carry app w =
     (each_map (Carries app w.history.fed) (λ n. config_msg w (Node.Switch n)) (running_switches w) (λ n. tt))
     (each_map (Carries app w.history.fed) (λ n. config_msg w (Node.Replica n)) (running_replicas w) (λ n. tt))
 
-carry_kept : (app : Application) → KeepsGiven app FedOnce (FramesCarry app)
+pub carry_kept : (app : Application) → KeepsGiven app FedOnce (FramesCarry app)
 carry_kept app =
     record {
       counts = λ w once h. h;

@@ -1,13 +1,13 @@
 -- A list of items whose numbers rise, split by a number.
-use Rattle.std.proofs.Common.{◌≡◌, ◌≢◌, ◌⊎◌, ℕ, suc, ◌+◌, ◌≤◌, ◌<◌, List, [], ◌∷◌, ◌++◌, arith, refl, sym, ◌∙◌, ap, subst, append-nil, append_assoc, true, false, Bool, inl, inr, filter, eq-eqb, eqb-true}
+use Rattle.std.proofs.Common.{◌≡◌, ◌≢◌, ℕ, ◌+◌, ◌≤◌, ◌<◌, List, [], ◌∷◌, ◌++◌, arith, refl, sym, ◌∙◌, ap, subst, append-nil, true, false, Bool, inl, inr, filter, eq-eqb, eqb-true}
 use Rattle.std.specs.Prelude.{◌==◌, not, if◌then◌else◌, nat_le, nat_lt}
-use Rattle.std.proofs.lemmas.Bool.{both_ways, leb-true, leb-false, le-leb, lt-ltb, ltb-true, ltb-false}
+use Rattle.std.proofs.lemmas.Bool.{both_ways, leb-true, leb-false, le-leb, lt-ltb, ltb-true}
 use Rattle.std.proofs.lemmas.List.Elements.{filter-append}
 use Rattle.proto_model.specs.Feeds.{Each, Pairwise}
 use Rattle.proto_model.specs.World.{Journaled}
 use Rattle.proto_safety.specs.Books.{In}
 use Rattle.proto_safety.proofs.Chains.{each_in}
-use Rattle.proto_safety.proofs.SerialLists.{filter_all, filter_no, filter_like}
+use Rattle.proto_safety.proofs.SerialLists.{filter_no, filter_like}
 
 -- up to a number, below it, and at it
 abbrev pub up_to : ℕ → List Journaled → List Journaled

@@ -1,25 +1,24 @@
 -- Fronts of granted epochs stand still while a book goes on, and the serial list grows at its end.
-use Rattle.std.proofs.Common.{◌≡◌, ◌≢◌, ◌⊎◌, ℕ, zero, suc, ◌+◌, ◌≤◌, ◌<◌, List, [], ◌∷◌, ◌++◌, Option, Some, None, arith, refl, sym, ◌∙◌, ap, subst, append-nil, append_assoc, true, false, Bool, inl, inr, filter, eq-eqb, eqb-true}
-use Rattle.std.specs.Prelude.{◌==◌, ◌&&◌, if◌then◌else◌, nat_le, nat_lt, fold, filter_map, flat_map, map}
-use Rattle.std.proofs.lemmas.Bool.{both_ways, and_parts, leb-true, leb-false, le-leb, lt-ltb, ltb-true, ltb-false, ne_eqb}
+use Rattle.std.proofs.Common.{◌≡◌, ℕ, ◌+◌, ◌≤◌, ◌<◌, List, [], ◌∷◌, ◌++◌, Option, Some, None, arith, refl, sym, ◌∙◌, ap, subst, append-nil, true, false, Bool, inl, inr, filter}
+use Rattle.std.specs.Prelude.{nat_lt, fold, flat_map}
+use Rattle.std.proofs.lemmas.Bool.{lt-ltb, ltb-true}
 use Rattle.std.proofs.lemmas.Grind.{fold-append, flat_map-append}
 use Rattle.std.proofs.lemmas.List.Concat.{flat_map-cons}
 use Rattle.std.proofs.lemmas.List.Elements.{filter-append, filter_map-append}
 use Rattle.proto_data.specs.declared.message.Entry.{Entry}
-use Rattle.proto_model.specs.Table.{Key, same_key}
-use Rattle.proto_model.specs.Feeds.{Each, Pairwise}
-use Rattle.proto_model.specs.Committed.{number_in, greater, epoch_granted, is_in, is_closed}
+use Rattle.proto_model.specs.Table.{Key}
+use Rattle.proto_model.specs.Feeds.{Each}
+use Rattle.proto_model.specs.Committed.{number_in, greater, epoch_granted, is_closed}
 use Rattle.proto_model.specs.World.{Journaled}
 use Rattle.proto_safety.specs.Books.{In}
-use Rattle.proto_safety.specs.Flows.{Flow, FitsFrom, flow_step, flow_from, flow_of}
+use Rattle.proto_safety.specs.Flows.{Flow, FitsFrom, flow_step, flow_of}
 use Rattle.proto_safety.specs.LeaseLaws.{HasEpoch}
-use Rattle.proto_safety.proofs.Tables.{same_key-refl, same_key-true}
+use Rattle.proto_safety.proofs.Tables.{same_key-refl}
 use Rattle.proto_safety.proofs.BookEpochs.{Stepped, other, first, next, put, snap, stepped, Above, step_above, fits_parts, entry_from}
 use Rattle.proto_safety.proofs.Chains.{each_in}
 use Rattle.proto_safety.proofs.Lists.{each_append, each_weaker}
-use Rattle.proto_safety.proofs.EpochNumbers.{number_epoch}
-use Rattle.proto_safety.proofs.FlowAlarm.{in_filter, in_append}
-use Rattle.proto_safety.proofs.SerialLists.{closing_in, epochs_in, journal_in, closed_in, serial_in, front_in, flat_map_same, filter_all, filter_no, ClosedAt, closes, no_number, no_grant, greater-None}
+use Rattle.proto_safety.proofs.FlowAlarm.{in_filter}
+use Rattle.proto_safety.proofs.SerialLists.{closing_in, epochs_in, journal_in, closed_in, serial_in, front_in, flat_map_same, filter_all, filter_no, closes, no_number, no_grant, greater-None}
 
 -- ---- a closing stands where no entry of its epoch comes
 
@@ -33,7 +32,7 @@ pub closing_stays : (key : Key) (e : ℕ) (es more : List Entry) → ((x : Entry
 closing_stays key e es more h = fold-append (λ c x. greater c (number_in key e x)) None es more ∙ closing_stays_from key e (closing_in key e es) more h
 
 -- the epochs that entries grant come later than what was reached before them
-one_epoch : {n : ℕ} {key : Key} {o u : Option Flow} {x : Entry} → Stepped n key o x u → Each (λ d. Above o d) (epochs_in key (x ∷ []))
+pub one_epoch : {n : ℕ} {key : Key} {o u : Option Flow} {x : Entry} → Stepped n key o x u → Each (λ d. Above o d) (epochs_in key (x ∷ []))
 one_epoch {key = key} {o = o} {x = x} (other ne) = let e : epochs_in key (x ∷ []) ≡ [] = rw (no_grant key x ne) refl in subst (λ l. Each (λ d. Above o d) l) (sym e) tt
 one_epoch {key = key} {o = o} (first {switch = s} {inc = i} {nonce = m}) =
     let e : epochs_in key (Entry.Grant key 1 s i m ∷ []) ≡ 1 ∷ [] = rw (same_key-refl key) refl in subst (λ l. Each (λ d. Above o d) l) (sym e) (omega arith, tt)
@@ -42,7 +41,7 @@ one_epoch {key = key} {o = o} (next {f = f} {switch = s} {inc = i} {nonce = m}) 
 one_epoch put = tt
 one_epoch snap = tt
 
-epochs_above : (n : ℕ) (key : Key) (o : Option Flow) (more : List Entry) → FitsFrom n key o more → Each (λ d. Above o d) (epochs_in key more)
+pub epochs_above : (n : ℕ) (key : Key) (o : Option Flow) (more : List Entry) → FitsFrom n key o more → Each (λ d. Above o d) (epochs_in key more)
 epochs_above n key o [] fits = tt
 epochs_above n key o (x ∷ xs) fits =
     subst (λ l. Each (λ d. Above o d) l) (sym (filter_map-append (epoch_granted key) (x ∷ []) xs))

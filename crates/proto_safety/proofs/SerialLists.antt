@@ -1,21 +1,21 @@
 -- The serial list of a flow, over the entries of the committed book and the items alone: fronts of granted epochs stand still, and the list grows at its end.
-use Rattle.std.proofs.Common.{◌≡◌, ◌≢◌, ◌⊎◌, ℕ, zero, suc, ◌+◌, ◌≤◌, ◌<◌, List, [], ◌∷◌, ◌++◌, Option, Some, None, arith, refl, sym, ◌∙◌, ap, subst, append-nil, append_assoc, true, false, Bool, inl, inr, filter, eq-eqb, eqb-true}
-use Rattle.std.specs.Prelude.{◌==◌, ◌&&◌, if◌then◌else◌, nat_le, nat_lt, max, fold, filter_map, flat_map, map}
-use Rattle.std.proofs.lemmas.Bool.{both_ways, and_parts, leb-true, leb-false, ltb-true, ltb-false, ne_eqb}
-use Rattle.std.proofs.lemmas.Grind.{fold-append, flat_map-append}
+use Rattle.std.proofs.Common.{◌≡◌, ℕ, ◌+◌, ◌<◌, List, [], ◌∷◌, ◌++◌, Option, Some, None, arith, refl, sym, ◌∙◌, ap, subst, append-nil, append_assoc, true, false, Bool, inl, inr, filter, eq-eqb}
+use Rattle.std.specs.Prelude.{if◌then◌else◌, nat_lt, max, fold, filter_map, flat_map}
+use Rattle.std.proofs.lemmas.Bool.{both_ways}
+use Rattle.std.proofs.lemmas.Grind.{fold-append}
 use Rattle.std.proofs.lemmas.List.Concat.{flat_map-cons}
-use Rattle.std.proofs.lemmas.List.Elements.{filter-append, filter_map-append}
+use Rattle.std.proofs.lemmas.List.Elements.{filter_map-append}
 use Rattle.proto_data.specs.declared.message.Entry.{Entry}
 use Rattle.proto_model.specs.Table.{Key, same_key}
-use Rattle.proto_model.specs.Feeds.{Each, Pairwise}
+use Rattle.proto_model.specs.Feeds.{Each}
 use Rattle.proto_model.specs.Committed.{number_in, greater, epoch_granted, is_in, is_closed}
 use Rattle.proto_model.specs.ReplicaRows.{entry_key}
 use Rattle.proto_model.specs.World.{Journaled}
 use Rattle.proto_safety.specs.Books.{In}
 use Rattle.proto_safety.specs.Flows.{Flow, FitsFrom, flow_step, flow_from, flow_of}
 use Rattle.proto_safety.specs.LeaseLaws.{HasEpoch}
-use Rattle.proto_safety.proofs.Tables.{same_key-refl, same_key-true}
-use Rattle.proto_safety.proofs.BookEpochs.{Stepped, other, first, next, put, snap, stepped, fits_parts, entry_from, grant_above}
+use Rattle.proto_safety.proofs.Tables.{same_key-refl}
+use Rattle.proto_safety.proofs.BookEpochs.{Stepped, other, first, next, put, snap, stepped}
 use Rattle.proto_safety.proofs.EpochNumbers.{number_epoch}
 use Rattle.proto_safety.proofs.Lists.{each_append}
 

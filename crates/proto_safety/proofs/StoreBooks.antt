@@ -32,26 +32,27 @@ record Same (s : Replica) (config : Config) (step : StoreStep) : Type 0 where
   me : step.0.me ≡ s.me
   config_is : step.0.config ≡ config
   cells_is : step.0.cell_count ≡ s.cell_count
+  terms_is : step.0.terms ≡ s.terms
 
 appended_same : (member tail full : Bool) (s : Replica) (now : ℕ) (e : Entry) (load : Option Carried) → Same s s.config (appended_as member tail full s now e load)
-appended_same false tail full s now e load = record { me = refl; config_is = refl; cells_is = refl }
-appended_same true true full s now e load = record { me = refl; config_is = refl; cells_is = refl }
-appended_same true false true s now e load = record { me = refl; config_is = refl; cells_is = refl }
-appended_same true false false s now e load = record { me = refl; config_is = refl; cells_is = refl }
+appended_same false tail full s now e load = record { me = refl; config_is = refl; cells_is = refl; terms_is = refl }
+appended_same true true full s now e load = record { me = refl; config_is = refl; cells_is = refl; terms_is = refl }
+appended_same true false true s now e load = record { me = refl; config_is = refl; cells_is = refl; terms_is = refl }
+appended_same true false false s now e load = record { me = refl; config_is = refl; cells_is = refl; terms_is = refl }
 
 configured_same : (tail : Bool) (s : Replica) → Same s s.config (configured_as tail s)
-configured_same true s = record { me = refl; config_is = refl; cells_is = refl }
-configured_same false s = record { me = refl; config_is = refl; cells_is = refl }
+configured_same true s = record { me = refl; config_is = refl; cells_is = refl; terms_is = refl }
+configured_same false s = record { me = refl; config_is = refl; cells_is = refl; terms_is = refl }
 
 row_same : (s : Replica) (now : ℕ) (row : StoreRow) → Same s (config_after s row) (store_perform s now row)
 row_same s now (Appends e load) = appended_same (is_member s) (is_tail s) (nat_le 256 (length s.pending)) s now e load
 row_same s now (AppendsSnap key g e) =
     let h = appended_same (is_member s) (is_tail s) (nat_le 256 (length s.pending)) (record s { gathered = put s.gathered key g }) now e None in
-    record { me = h.me; config_is = h.config_is; cells_is = h.cells_is }
+    record { me = h.me; config_is = h.config_is; cells_is = h.cells_is; terms_is = h.terms_is }
 row_same s now (Adopts config) =
     let h = configured_same (is_tail (record s { config = config })) (record s { config = config }) in
-    record { me = h.me; config_is = h.config_is; cells_is = h.cells_is }
-row_same s now _ = record { me = refl; config_is = refl; cells_is = refl }
+    record { me = h.me; config_is = h.config_is; cells_is = h.cells_is; terms_is = h.terms_is }
+row_same s now _ = record { me = refl; config_is = refl; cells_is = refl; terms_is = refl }
 
 pub row_me : (s : Replica) (now : ℕ) (row : StoreRow) → (store_perform s now row).0.me ≡ s.me
 row_me s now row = (row_same s now row).me
@@ -61,6 +62,9 @@ row_config s now row = (row_same s now row).config_is
 
 pub row_cells : (s : Replica) (now : ℕ) (row : StoreRow) → (store_perform s now row).0.cell_count ≡ s.cell_count
 row_cells s now row = (row_same s now row).cells_is
+
+pub row_terms : (s : Replica) (now : ℕ) (row : StoreRow) → (store_perform s now row).0.terms ≡ s.terms
+row_terms s now row = (row_same s now row).terms_is
 
 -- ---- what it applies
 

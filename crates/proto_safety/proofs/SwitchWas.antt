@@ -16,7 +16,7 @@ use Rattle.proto_model.specs.SwitchRows.{switch_step}
 use Rattle.proto_safety.proofs.Tables.{get-put_same, get-put_other, get-map_values, same_key-true, same_some}
 use Rattle.proto_safety.proofs.SwitchTable.{msg, Acts, Ready, fed, at_grant, at_grant_again, first_ask, ask_idle, ask_anew, ask_lapsed, ask_again, no_copy_room, direct, mirrored, snapped, too_old, granted_only, late, acked, round_done, denied, busied, row_acts}
 use Rattle.proto_safety.proofs.AlarmInduction.{WalkKeeps, walk_kept}
-use Rattle.proto_safety.proofs.SwitchFirsts.{acked_epoch, lapsed_epoch, lapsed_asking, has_leased, not_asking}
+use Rattle.proto_safety.proofs.SlotFirsts.{acked_epoch, lapsed_epoch, lapsed_asking, has_leased, not_asking}
 use Rattle.proto_safety.proofs.SlotCells.{mapped}
 
 -- what slot v of flow k was, in these slots and with this count of nonces

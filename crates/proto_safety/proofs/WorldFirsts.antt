@@ -27,7 +27,8 @@ use Rattle.proto_safety.specs.Firsts.{request_of, with_sent}
 use Rattle.proto_safety.specs.SwitchSent.{SentNow as SaidNow}
 use Rattle.proto_safety.proofs.FirstSendings.{Made, SentNow, sent_keeps, sent_was, sent_made}
 use Rattle.proto_safety.proofs.StrictSends.{NoSnap, NoSnaps, step_no_snap}
-use Rattle.proto_safety.proofs.SwitchFirsts.{NodeFirsts, Counted, Untouched, step_firsts}
+use Rattle.proto_safety.proofs.SlotFirsts.{NodeFirsts, Counted, Untouched}
+use Rattle.proto_safety.proofs.SwitchFirsts.{step_firsts}
 use Rattle.proto_safety.proofs.SwitchSays.{Tidy, step_says}
 use Rattle.proto_safety.proofs.SwitchTable.{msg}
 use Rattle.proto_safety.proofs.Places.{at_set, at_changed}
@@ -232,7 +233,7 @@ module _ (app : Application) (w : World) (fs : List First) (n : ℕ) (node : Swi
 
     -- ---- a request that is new has no entry
 
-    new_entry : (f : First) → SentNow n node.clock fs sent f → (e : Entry) → Origin w.frames e → IsEntryOf f e → ⊥
+    pub new_entry : (f : First) → SentNow n node.clock fs sent f → (e : Entry) → Origin w.frames e → IsEntryOf f e → ⊥
     new_entry f s (Entry.Grant key epoch switch inc nonce) o is =
         let from : o.msg.from ≡ Node.Switch n = o.from_is ∙ ap (λ (x : ℕ). Node.Switch x) (is.1 ∙ s.switch_is) in
         let d : Made fs n key (AskOf inc nonce) = h.asked o.msg n (key, AskOf inc nonce) o.there from (ap request_of o.body_is) in

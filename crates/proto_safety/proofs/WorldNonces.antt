@@ -243,7 +243,7 @@ no_ask_sent : (r : Replica) (es : List Entry) (ms : List Msg) (n inc nonce : ℕ
 no_ask_sent r es ms n inc nonce key h a =
     subst (λ (b : Body). SentBooks r es a.msg.from a.msg.to b) a.body_is (each_in (λ (m : Msg). SentBooks r es m.from m.to m.body) ms a.msg h a.there)
 
-config_msgs : (w : World) → Each (λ (m : Msg). (c : Config) × (m.body ≡ Body.Config c)) (announcements w)
+pub config_msgs : (w : World) → Each (λ (m : Msg). (c : Config) × (m.body ≡ Body.Config c)) (announcements w)
 config_msgs w =
     each_append (λ (m : Msg). (c : Config) × (m.body ≡ Body.Config c)) (map (λ n. config_msg w (Node.Switch n)) (running_switches w)) _
     (each_map (λ (m : Msg). (c : Config) × (m.body ≡ Body.Config c)) (λ n. config_msg w (Node.Switch n)) (running_switches w) (λ n. (w.config, refl)))

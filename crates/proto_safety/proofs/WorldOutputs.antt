@@ -96,7 +96,7 @@ put_carries event now items key epoch mark number delta inc (Some o) from to of 
 )
 
 -- an output has its packet's mark
-output_mark : (app : Application) (cells : List ℕ) (p : Packet) (made : Delta × Option Output) → IsApplication app → length cells ≡ app.cell_count → app.plain cells p ≡ made → (o : Output) → made.1 ≡ Some o → o.mark ≡ p.mark
+pub output_mark : (app : Application) (cells : List ℕ) (p : Packet) (made : Delta × Option Output) → IsApplication app → length cells ≡ app.cell_count → app.plain cells p ≡ made → (o : Output) → made.1 ≡ Some o → o.mark ≡ p.mark
 output_mark app cells p made is size e o at =
     let h : IsOutputOf p made.1 = subst (λ (m : Delta × Option Output). IsOutputOf p m.1) e (is.outputs cells p size) in
     let k : IsOutputOf p (Some o) = subst (λ (m : Option Output). IsOutputOf p m) at h in k.0

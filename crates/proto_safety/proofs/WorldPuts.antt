@@ -30,7 +30,7 @@ use Rattle.proto_safety.proofs.Copies.{Fit, HasSlot}
 use Rattle.proto_safety.proofs.SwitchSays.{Tidy, step_says}
 use Rattle.proto_safety.proofs.SwitchTable.{msg}
 use Rattle.proto_safety.proofs.SwitchWas.{Was, goes_on, asks, takes, ItemStands, step_was, step_item}
-use Rattle.proto_safety.proofs.SwitchFirsts.{not_asking}
+use Rattle.proto_safety.proofs.SlotFirsts.{not_asking}
 use Rattle.proto_safety.proofs.Tables.{same_some, same_key-true}
 
 -- a Put that switch n sent

@@ -48,10 +48,10 @@ PutsOf w = PutsFit w.frames w.switches w.replicas w.history.items
 
 -- ---- switches and replicas that were there before
 
-abbrev SlotsWere : List SwitchNode → ℕ → SwitchNode → Type 0
+abbrev pub SlotsWere : List SwitchNode → ℕ → SwitchNode → Type 0
 SlotsWere old n node = (key : Key) (slot : Slot) → slot_at node.state key ≡ Some slot → SlotWas old n node key slot
 
-as_they_were : (nodes : List SwitchNode) → AllAt (SlotsWere nodes) nodes
+pub as_they_were : (nodes : List SwitchNode) → AllAt (SlotsWere nodes) nodes
 as_they_were nodes n node at key slot found = record { node_was = node; at = at; found = found; inc = refl }
 
 abbrev GrantsWere : List ReplicaNode → List ReplicaNode → Type 0
@@ -69,7 +69,7 @@ quietly frames switches after replicas later items grows slots grants h =
     subst (λ (fs : List Msg). PutsFit fs after later items) (append-nil frames)
     (changed_puts frames [] switches after replicas later items tt grows (λ n node key slot at found. slots n node at key slot found) grants h)
 
-same_prefix : (es : List Entry) → IsPrefix es es
+pub same_prefix : (es : List Entry) → IsPrefix es es
 same_prefix es = record { rest = []; is = append-nil es }
 
 -- ---- a replica's step
@@ -137,7 +137,7 @@ told_grant app w n node input from g a b nonce e key cells load came =
 pub fed_grant : (es : List Entry) (n inc : ℕ) (p : Packet) (from to : Node) (nonce e : ℕ) (key : Key) (cells : List ℕ) (load : Option Carried) → Input.Packet p ≡ msg from to (Body.Grant inc nonce e key cells load) → In es (Entry.Grant key e n inc nonce)
 fed_grant es n inc p from to nonce e key cells load came = absurd cc
 
-no_slots : (old : List SwitchNode) (w : World) (m : ℕ) (x : SwitchNode) → SlotsWere old m x → SlotsWere old m (record x { runs = true; state = open_switch x.state.me (x.state.inc + 1) w.terms w.config })
+pub no_slots : (old : List SwitchNode) (w : World) (m : ℕ) (x : SwitchNode) → SlotsWere old m x → SlotsWere old m (record x { runs = true; state = open_switch x.state.me (x.state.inc + 1) w.terms w.config })
 no_slots old w m x h key slot found = let no : None ≡ Some slot = found in absurd cc
 
 pub puts_kept : (app : Application) → KeepsGiven app (Ground app.cell_count) PutsOf

@@ -6,7 +6,7 @@ use crate::delta::Delta;
 use rp_base::{Cells, Key, NoMemory, Output, Packet};
 
 /// An application: it keeps so many cells for each flow, and makes an output and new cells of a packet and the cells of its flow.
-pub trait App {
+pub trait App: Drop {
     /// How many cells a flow has, which flow a packet belongs to, and what the application makes of it.
     ghost meaning: { Self → Application };
 

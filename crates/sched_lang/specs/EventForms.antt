@@ -1,4 +1,4 @@
--- The forms of events, by their first words.
+-- The forms of events, by their first words. All are in ASCII, so a line with any other byte has none.
 use Rattle.std.specs.Prelude.{ℕ, ◌+◌, ◌==◌, if◌then◌else◌, List, [], ◌∷◌, ◌++◌, fold, length, Option, Some, None, Result, Ok, Err, codes, bytes_eq}
 use Rattle.rp_base.specs.declared.event.Event.{Event}
 use Rattle.rp_base.specs.declared.node.Node.{Node}
@@ -82,12 +82,13 @@ kind_of word =
     else if bytes_eq word (codes "pump") then Some kind.Pump
     else None
 
--- an event with a frame, and an event with a node
+-- an event with the number of a frame
 abbrev pub frame_event : (ℕ → Event) → List (List ℕ) → Result Event SchedWhy
 frame_event made args = do
   n ← frame args
   Ok (made n)
 
+-- an event with a node
 abbrev pub node_event : (Node → Event) → ℕ → ℕ → List (List ℕ) → Result Event SchedWhy
 node_event made switches chain args = do
   n ← node_word switches chain args

@@ -33,25 +33,29 @@ abbrev pub behind : List ℕ → List (List ℕ) → Result (List (List ℕ)) Sc
 behind name [] = Err why.Form
 behind name (word ∷ args) = if bytes_eq word name then Ok args else Err why.Form
 
--- no word, one word, two words, three words and no more
+-- no word
 abbrev pub none : List (List ℕ) → Result (Unit {0}) SchedWhy
 none [] = Ok tt
 none ws = Err why.Form
 
+-- one word and no more
 abbrev pub one : List (List ℕ) → Result (List ℕ) SchedWhy
 one (a ∷ []) = Ok a
 one ws = Err why.Form
 
+-- two words and no more
 abbrev pub two : List (List ℕ) → Result (List ℕ × List ℕ) SchedWhy
 two (a ∷ b ∷ []) = Ok (a, b)
 two ws = Err why.Form
 
+-- three words and no more
 abbrev pub three : List (List ℕ) → Result (List ℕ × List ℕ × List ℕ) SchedWhy
 three (a ∷ b ∷ c ∷ []) = Ok (a, b, c)
 three ws = Err why.Form
 
 -- ---- numbers
 
+-- `0` to `9`
 abbrev pub is_digit : ℕ → Bool
 is_digit b = nat_le 48 b && nat_le b 57
 
@@ -100,10 +104,12 @@ abbrev pub switch : ℕ → List ℕ → Result ℕ SchedWhy
 switch switches (letter ∷ digit ∷ []) = if letter == 115 then numbered 8 switches digit else Err why.Form
 switch switches word = Err why.Form
 
+-- a number of a switch, as a node
 abbrev as_switch : Result ℕ SchedWhy → Result Node SchedWhy
 as_switch (Ok n) = Ok (Node.Switch n)
 as_switch (Err cause) = Err cause
 
+-- a number of a replica, as a node
 abbrev as_replica : Result ℕ SchedWhy → Result Node SchedWhy
 as_replica (Ok n) = Ok (Node.Replica n)
 as_replica (Err cause) = Err cause

@@ -1,0 +1,5 @@
+pub mod Fronts
+pub mod Schedules
+pub mod ReportTexts
+pub mod EventCounts
+pub mod LegalReports

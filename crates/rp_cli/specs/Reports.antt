@@ -1,0 +1,49 @@
+-- The run that a schedule asks for, and the text of its report.
+use Rattle.std.specs.Prelude.{◌≡◌, ℕ, false, List, Option, Some, None}
+use Rattle.rp_base.specs.declared.event.Event.{Event}
+use Rattle.rp_app.specs.Application.{Application, IsApplication, counting}
+use Rattle.proto_data.specs.declared.terms.Mode.{Mode}
+use Rattle.proto_model.specs.Legal.{IsLegal}
+use Rattle.proto_model.specs.World.{Setup as WorldSetup, opened}
+use Rattle.proto_model.specs.WorldStep.{world_after}
+use Rattle.proto_model.specs.EndLines.{report}
+use Rattle.rp_world.specs.declared.world.Setup.{Setup}
+use Rattle.rp_world.specs.Running.{shown}
+use Rattle.sched_lang.specs.declared.schedule.Schedule.{Schedule}
+use Rattle.run_report.specs.Report.{lines_text}
+
+-- snapshot mode with this bound, or strict mode
+abbrev pub mode_of : Option ℕ → Mode
+mode_of None = Mode.Strict
+mode_of (Some bound) = Mode.Snapshot bound
+
+-- the nodes and terms that a schedule asks for
+abbrev pub setup_of : Schedule → Setup
+setup_of s =
+    record {
+      switches = s.switches;
+      replicas = s.chain;
+      terms = record { t_switch = s.t_switch; t_store = s.t_store; ratio = s.ratio; mode = mode_of s.snapshot };
+    }
+
+-- the same without a link
+abbrev pub unlinked : Setup → WorldSetup
+unlinked setup = record { switches = setup.switches; replicas = setup.replicas; terms = setup.terms; linked = false }
+
+-- the text of the report of a run, without the frames that it sends
+abbrev pub report_text : Application → Setup → List Event → List ℕ
+report_text app setup events = lines_text (shown (report false app (unlinked setup) events))
+
+-- the report of the run of a schedule, in which packets are counted
+abbrev pub counting_report : Schedule → List ℕ
+counting_report s = report_text counting (setup_of s) s.events
+
+-- This text is the report of a run with a legal history: what it shows of each flow is what one switch that never fails gives
+-- along the flow's serial list.
+pub record IsLegalReport (text : List ℕ) : Type 0 where
+  pub app : Application
+  pub setup : Setup
+  pub events : List Event
+  pub keeps : IsApplication app
+  pub text_is : text ≡ report_text app setup events
+  pub legal : IsLegal app (world_after app (opened app.cell_count (unlinked setup)) events)

@@ -1,0 +1,97 @@
+//! A run, whose lines are written as they come.
+ghost use Rattle.std.specs.Prelude.{◌≡◌, ◌≤◌, All, length, OnOk, OnErr};
+ghost use Rattle.rp_base.specs.Outside.{Grows, GrowsByFront, HasCause};
+ghost use Rattle.rp_world.specs.Running.{IsSetup, IsEvent};
+ghost use Rattle.run_report.specs.Report.{NamesKind, line_text, lines_text};
+ghost use Rattle.rp_cli.specs.Reports.{report_text};
+
+use rp_app::App;
+use rp_base::{Event, Failed, Line, NoMemory, Sink, write_all};
+use rp_world::{Setup, World};
+use std::alloc::Global;
+
+/// Why a report ends early.
+#[derive(Clone, Copy, Debug, PartialEq, Eq)]
+pub enum Stop {
+    /// The sink has counted a fault.
+    Failed,
+    /// Memory ran out.
+    NoMemory,
+}
+
+impl From<NoMemory> for Stop {
+    ghost use Rattle.std.specs.Prelude.{◌≡◌};
+    ghost use Rattle.rp_cli.specs.declared.running.Stop.TheVariants.{NoMemory as NoRoom};
+
+    ghost from_gives = { λ _ stop. stop ≡ NoRoom };
+
+    fn from(_e: NoMemory) -> Stop {
+        Stop::NoMemory
+    }
+}
+
+impl From<Failed> for Stop {
+    ghost use Rattle.std.specs.Prelude.{◌≡◌};
+    ghost use Rattle.rp_cli.specs.declared.running.Stop.TheVariants.{Failed as Fails};
+
+    ghost from_gives = { λ _ stop. stop ≡ Fails };
+
+    fn from(_e: Failed) -> Stop {
+        Stop::Failed
+    }
+}
+
+// Writes a line whole.
+fn write_line<K: Sink>(alloc: Global, l: &Line, out: &mut K) -> Result<(), Stop>
+    requires { NamesKind l.now }
+    ensures ok { OnOk result (Grows (K.written out.old) (K.written out.new) (line_text l.now)) }
+    ensures err { OnErr result (GrowsByFront (K.written out.old) (K.written out.new) (line_text l.now)) }
+    ensures cause { HasCause (K.faults out.old) (K.faults out.new) result Stop.Failed }
+{
+    let text = run_report::line(alloc, l)?;
+    write_all(out, text.as_slice())?;
+    Ok(())
+}
+
+// Writes lines one after the other, each whole.
+fn write_lines<K: Sink>(alloc: Global, lines: &[Line], out: &mut K) -> Result<(), Stop>
+    requires { All NamesKind lines.now }
+    ensures ok { OnOk result (Grows (K.written out.old) (K.written out.new) (lines_text lines.now)) }
+    ensures err { OnErr result (GrowsByFront (K.written out.old) (K.written out.new) (lines_text lines.now)) }
+    ensures cause { HasCause (K.faults out.old) (K.faults out.new) result Stop.Failed }
+{
+    for l in lines {
+        write_line(alloc, l, out)?;
+    }
+    Ok(())
+}
+
+/// Runs an application over events, and writes the report: the lines of each event before the next one is taken.
+///
+/// The setup is one that is built, the application has at most 32 cells, and each of at most 20,000 events is one that is built.
+///
+/// # Errors
+/// `Failed` only where the sink's count of faults rose in this call, `NoMemory`; a front of the report was written.
+pub fn write_report<A: App, K: Sink>(
+    alloc: Global,
+    app: A,
+    setup: &Setup,
+    events: &[Event],
+    out: &mut K,
+) -> Result<(), Stop>
+    requires setup { IsSetup setup.now }
+    requires cells { (A.meaning app).cell_count ≤ 32 }
+    requires events { All IsEvent events.now }
+    requires count { length events.now ≤ 20000 }
+    ensures ok { OnOk result (Grows (K.written out.old) (K.written out.new) (report_text (A.meaning app) setup.now events.now)) }
+    ensures err { OnErr result (GrowsByFront (K.written out.old) (K.written out.new) (report_text (A.meaning app) setup.now events.now)) }
+    ensures cause { HasCause (K.faults out.old) (K.faults out.new) result Stop.Failed }
+{
+    let mut world = World::open(alloc, app, setup)?;
+    for event in events {
+        let lines = world.on(event)?;
+        write_lines(alloc, lines.as_slice(), out)?;
+    }
+    let lines = world.closing()?;
+    write_lines(alloc, lines.as_slice(), out)
+}

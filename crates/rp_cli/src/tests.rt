@@ -1,0 +1,217 @@
+use crate::adapters::UdpLink;
+use crate::status::Status;
+use crate::top::rp_main;
+use rp_base::{
+    Bytes, Content, Kept, Link, ListClock, MemInputs, MemSink, NoMemory, Node, Post, SureInputs,
+    SureLink, SureSink, Words,
+};
+use sched_lang::SchedWhy;
+use std::alloc::Global;
+use std::test::Fail;
+
+const HEADER: &[u8] =
+    b"rp-schedule 1\nswitches 1\nchain 1\nlease 1000 1100\nratio 50\nmode strict\n";
+
+const ONE_PACKET: &[u8] = b"feed 7 6121\nnext\nnext\nnext\nnext\n";
+
+const ONE_PACKET_REPORT: &[u8] =
+    b"release 5 1 7 00000000000000016121\nserial 61 1\ncells 61 1\nend\n";
+
+const CLEAN_PACKETS: &[u8] = b"feed 7 613f\nfeed 7 6121\nfeed 7 613f\nnext\nnext\nnext\nnext\n";
+
+const CLEAN_PACKETS_REPORT: &[u8] = b"release 5 1 7 00000000000000016121\n\
+    release 6 6 7 0000000000000001613f\n\
+    release 11 7 7 00000000000000026121\n\
+    release 12 8 7 0000000000000002613f\n\
+    serial 61 1 6 7 8\ncells 61 2\nend\n";
+
+const EQUAL_TERMS: &[u8] =
+    b"rp-schedule 1\nswitches 1\nchain 1\nlease 200 200\nratio 5\nmode strict\n";
+
+fn bytes(alloc: Global, parts: &[&[u8]]) -> Result<Bytes, NoMemory> {
+    let mut made = Bytes::new(alloc);
+    for part in parts {
+        made.append(part)?;
+    }
+    Ok(made)
+}
+
+// The words of a line, of which each but the last ends at a space.
+fn words(alloc: Global, line: &[u8]) -> Result<Words, NoMemory> {
+    let mut made = Words::new(alloc);
+    let mut word = Bytes::new(alloc);
+    for b in line {
+        if *b == b' ' {
+            made.push(word)?;
+            word = Bytes::new(alloc);
+        } else {
+            word.push(*b)?;
+        }
+    }
+    if !line.is_empty() {
+        made.push(word)?;
+    }
+    Ok(made)
+}
+
+// The contents of inputs whose one name is `x`.
+fn contents(alloc: Global, schedule: Bytes) -> Result<Vec<Content>, NoMemory> {
+    let mut contents = Vec::new(alloc);
+    contents.push(Content {
+        name: bytes(alloc, &[b"x"])?,
+        bytes: schedule,
+    })?;
+    Ok(contents)
+}
+
+fn link(alloc: Global) -> SureLink {
+    SureLink {
+        post: Post::new(alloc),
+    }
+}
+
+fn clock(alloc: Global) -> Result<ListClock, Fail> {
+    Ok(ListClock::of(Vec::new(alloc)).ok_or("a clock without answers")?)
+}
+
+// What the words of a line answer and write over objects without faults.
+fn surely(alloc: Global, line: &[u8], schedule: Bytes) -> Result<(Status, Vec<u8>), Fail> {
+    let words = words(alloc, line)?;
+    let mut inputs = SureInputs {
+        contents: contents(alloc, schedule)?,
+    };
+    let mut out = SureSink {
+        kept: Kept::with_room(alloc, 10000)?,
+    };
+    let mut link = link(alloc);
+    let mut clock = clock(alloc)?;
+    let status = rp_main(alloc, &words, &mut inputs, &mut out, &mut link, &mut clock);
+    Ok((status, out.kept.bytes))
+}
+
+#[test]
+fn worked_rows(rt: HostRuntime) -> Result<(), Fail> {
+    let alloc = rt.alloc();
+    let rows: [(&[u8], &[u8], &[u8]); 5] = [
+        (ONE_PACKET, b"", ONE_PACKET_REPORT),
+        (b"", b"", b"end\n"),
+        (b"# nothing\n\n", b"", b"end\n"),
+        (ONE_PACKET, CLEAN_PACKETS, CLEAN_PACKETS_REPORT),
+        (b"feed 7 -\n", b"", b"end\n"),
+    ];
+    for (first, second, report) in rows {
+        let schedule = bytes(alloc, &[HEADER, first, second])?;
+        let (status, text) = surely(alloc, b"run @count x", schedule)?;
+        assert_eq!(rt; status, Status::Done);
+        assert_eq!(rt; text.as_slice(), report);
+    }
+    Ok(())
+}
+
+#[test]
+fn the_last_of_many_copies_is_dropped(rt: HostRuntime) -> Result<(), Fail> {
+    let alloc = rt.alloc();
+    let mut schedule = bytes(alloc, &[HEADER, b"feed 7 6121\nnext\nnext\n"])?;
+    for _ in 4..=1027 {
+        schedule.append(b"feed 7 6121\n")?;
+    }
+    let (status, text) = surely(alloc, b"run @count x", schedule)?;
+    assert_eq!(rt; status, Status::Done);
+    assert_eq!(rt;
+        text.as_slice(),
+        b"drop 1027 1027 mirror\nserial 61\ncells 61 0\nend\n".as_slice()
+    );
+    Ok(())
+}
+
+#[test]
+fn refusals_write_nothing(rt: HostRuntime) -> Result<(), Fail> {
+    let alloc = rt.alloc();
+    let terms = Status::ScheduleRefused {
+        line: 5,
+        why: SchedWhy::Terms,
+    };
+    let not_yet = Status::ScheduleRefused {
+        line: 7,
+        why: SchedWhy::NotYet,
+    };
+    let form = Status::ScheduleRefused {
+        line: 1,
+        why: SchedWhy::Form,
+    };
+    let rows: [(&[u8], &[u8], &[u8], Status); 7] = [
+        (b"", HEADER, ONE_PACKET, Status::Usage),
+        (b"run @count", HEADER, ONE_PACKET, Status::Usage),
+        (b"run app x", HEADER, ONE_PACKET, Status::Usage),
+        (b"run @count x x", HEADER, ONE_PACKET, Status::Usage),
+        (b"run @count x", EQUAL_TERMS, b"", terms),
+        (b"run @count x", HEADER, b"alarm s0\n", not_yet),
+        (b"run @count x", b"", b"", form),
+    ];
+    for (line, first, second, wanted) in rows {
+        let schedule = bytes(alloc, &[first, second])?;
+        let (status, text) = surely(alloc, line, schedule)?;
+        assert_eq!(rt; status, wanted);
+        assert_eq!(rt; text.len(), 0);
+    }
+    Ok(())
+}
+
+#[test]
+fn faults_end_the_run(rt: HostRuntime) -> Result<(), Fail> {
+    let alloc = rt.alloc();
+    // the words, the call at which the sink fails, and what comes of it
+    let rows: [(&[u8], u64, Status, &[u8]); 3] = [
+        (b"run @count x", 9, Status::Done, ONE_PACKET_REPORT),
+        (
+            b"run @count x",
+            2,
+            Status::OutputFault,
+            b"release 5 1 7 00000000000000016121\nserial 61 1\n",
+        ),
+        (b"run @count nofile", 9, Status::InputFault, b""),
+    ];
+    for (line, call, wanted, text) in rows {
+        let words = words(alloc, line)?;
+        let mut inputs = MemInputs {
+            contents: contents(alloc, bytes(alloc, &[HEADER, ONE_PACKET])?)?,
+            failing: Vec::new(alloc),
+            calls: 0,
+            faults: 0,
+        };
+        let mut out = MemSink {
+            kept: Kept::with_room(alloc, 10000)?,
+            most: 10000,
+            failing: [call].to_vec(alloc)?,
+            calls: 0,
+            faults: 0,
+        };
+        let mut link = link(alloc);
+        let mut clock = clock(alloc)?;
+        let status = rp_main(alloc, &words, &mut inputs, &mut out, &mut link, &mut clock);
+        assert_eq!(rt; status, wanted);
+        assert_eq!(rt; out.kept.bytes.as_slice(), text);
+    }
+    Ok(())
+}
+
+#[test]
+fn a_socket_carries_a_frame(rt: HostRuntime) -> Result<(), Fail> {
+    let mut link = UdpLink {
+        rt: &rt,
+        open: Vec::new(rt.alloc()),
+        faults: 0,
+    };
+    let mut got = Bytes::new(rt.alloc());
+    link.send(Node::Switch(0), Node::Replica(0), b"frame")?;
+    let mut seen = false;
+    for _ in 0..1000 {
+        if link.recv(Node::Replica(0), &mut got)? {
+            seen = true;
+            break;
+        }
+    }
+    assert!(rt; seen);
+    assert_eq!(rt; got.as_slice(), b"frame".as_slice());
+    Ok(())
+}

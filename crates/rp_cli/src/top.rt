@@ -1,0 +1,140 @@
+//! The top call: what the program does over any inputs, sink, link and clock.
+ghost use Rattle.std.specs.Prelude.{◌≡◌, ◌↔◌, [], None, Some, IfSome, IfOk, IfErr, IsOk, IsErrOf};
+ghost use Rattle.std.specs.Option.{option_copied};
+ghost use Rattle.rp_base.specs.Outside.{Grows, Rose};
+ghost use Rattle.rp_world.specs.Running.{IsSetup};
+ghost use Rattle.sched_lang.specs.Reading.{schedule_of};
+ghost use Rattle.sched_lang.specs.Ready.{IsReady};
+ghost use Rattle.rp_cli.specs.Reports.{setup_of as setup_for, IsLegalReport};
+ghost use Rattle.rp_cli.specs.Top.{form_of, is_counting_run as is_counting, outcome, read_or_refused, schedule_in, Answers, Loads, IsBeforeRun, IsAfterRun, IsNoSchedule, IsDoneOrNoMemory};
+
+use crate::running::{Stop, write_report};
+use crate::status::Status;
+use proto_data::{Mode, Terms};
+use rp_app::CountApp;
+use rp_base::{Bytes, Clock, InputEnd, Inputs, Link, Sink, Words};
+use rp_world::Setup;
+use sched_lang::{SchedEnd, Schedule};
+use std::alloc::Global;
+
+// The most bytes that a schedule has.
+const SCHEDULE_LIMIT: u64 = 4194304;
+
+// Whether a command runs the counting application.
+fn is_counting_run(command: &Bytes, app: &Bytes) -> bool
+    ensures { result ≡ is_counting command.now app.now }
+{
+    command.as_slice() == b"run".as_slice() && app.as_slice() == b"@count".as_slice()
+}
+
+// The name of the schedule that the words give; `None` exactly where they have no form.
+fn name_of(words: &Words) -> Option<&[u8]>
+    ensures { option_copied result ≡ form_of words.now }
+{
+    if words.len() != 3 {
+        return None;
+    }
+    let command = words.at(0)?;
+    let app = words.at(1)?;
+    let name = words.at(2)?;
+    if is_counting_run(command, app) {
+        Some(name.as_slice())
+    } else {
+        None
+    }
+}
+
+// Loads a schedule and reads it.
+fn loaded<I: Inputs>(alloc: Global, name: &[u8], inputs: &mut I) -> Result<Schedule, Status>
+    ensures told { IfSome (I.contents inputs.old) (λ contents. Loads result (schedule_in (contents name.now))) }
+    ensures ready { IfOk result IsReady }
+    ensures ends { IfErr result IsNoSchedule }
+    ensures input { IsErrOf result Status.InputFault → Rose (I.faults inputs.old) (I.faults inputs.new) }
+{
+    let mut text = Bytes::new(alloc);
+    match inputs.load(name, SCHEDULE_LIMIT, &mut text) {
+        Ok(()) => read(alloc, &text),
+        Err(InputEnd::Failed) => Err(Status::InputFault),
+        Err(InputEnd::NoMemory) => Err(Status::NoMemory),
+    }
+}
+
+// Reads a schedule.
+fn read(alloc: Global, text: &Bytes) -> Result<Schedule, Status>
+    ensures exact { Loads result (read_or_refused (schedule_of text.now)) }
+    ensures ready { IfOk result IsReady }
+    ensures ends { IfErr result IsNoSchedule }
+    ensures input { IsErrOf result Status.InputFault → ⊥ }
+{
+    match sched_lang::read(alloc, text.as_slice()) {
+        Ok(schedule) => Ok(schedule),
+        Err(SchedEnd::Refused { line, why }) => Err(Status::ScheduleRefused { line, why }),
+        Err(SchedEnd::NoMemory) => Err(Status::NoMemory),
+    }
+}
+
+// The nodes and terms of a schedule's run.
+fn setup_of(schedule: &Schedule) -> Setup
+    requires { IsReady schedule.now }
+    ensures value { result ≡ setup_for schedule.now }
+    ensures setup { IsSetup result }
+{
+    Setup {
+        switches: schedule.switches,
+        replicas: schedule.chain,
+        terms: Terms {
+            t_switch: schedule.t_switch,
+            t_store: schedule.t_store,
+            ratio: schedule.ratio,
+            mode: match schedule.snapshot {
+                None => Mode::Strict,
+                Some(bound) => Mode::Snapshot(bound),
+            },
+        },
+    }
+}
+
+/// Runs the command of these words.
+pub fn rp_main<I: Inputs, K: Sink, L: Link, C: Clock>(
+    alloc: Global,
+    words: &Words,
+    inputs: &mut I,
+    out: &mut K,
+    link: &mut L,
+    clock: &mut C,
+) -> Status
+    ensures usage { (result ≡ Status.Usage) ↔ (form_of words.now ≡ None) }
+
+    // where the inputs tell their contents
+    ensures told { IfSome (I.contents inputs.old) (λ contents.
+        Answers result (outcome words.now contents) (K.written out.old) (K.written out.new)) }
+    // what was written, whole or in part, is the report of a run that one switch could have shown
+    ensures legal { IfSome (I.contents inputs.old) (λ contents.
+        IsAfterRun result → IfOk (outcome words.now contents) IsLegalReport) }
+    ensures complete { IfSome (I.contents inputs.old) (λ contents. IsOk (outcome words.now contents) →
+        ¬ Rose (I.faults inputs.old) (I.faults inputs.new) → ¬ Rose (K.faults out.old) (K.faults out.new) → IsDoneOrNoMemory result) }
+
+    ensures nothing { IsBeforeRun result → Grows (K.written out.old) (K.written out.new) [] }
+    ensures input { result ≡ Status.InputFault → Rose (I.faults inputs.old) (I.faults inputs.new) }
+    ensures output { result ≡ Status.OutputFault → Rose (K.faults out.old) (K.faults out.new) }
+    ensures link { link.new ≡ link.old }
+    ensures clock { clock.new ≡ clock.old }
+{
+    let _ = link;
+    let _ = clock;
+    let Some(name) = name_of(words) else {
+        return Status::Usage;
+    };
+    match loaded(alloc, name, inputs) {
+        Err(status) => status,
+        Ok(schedule) => {
+            let setup = setup_of(&schedule);
+            let events = schedule.events.as_slice();
+            match write_report(alloc, CountApp { alloc }, &setup, events, out) {
+                Ok(()) => Status::Done,
+                Err(Stop::Failed) => Status::OutputFault,
+                Err(Stop::NoMemory) => Status::NoMemory,
+            }
+        }
+    }
+}

@@ -1,0 +1,10 @@
+pub mod Joins
+pub mod Loops
+pub mod Codecs
+pub mod Forms
+pub mod PartCodecs
+pub mod Choices
+pub mod KindCodecs
+pub mod MessageCodecs
+pub mod WholeMessages
+pub mod LawsHold

@@ -1,0 +1,20 @@
+pub mod SwitchRings
+pub mod KeyTables
+pub mod KeyMaps
+pub mod KeyPlaces
+pub mod Stored
+pub mod Worlds
+pub mod EachOf
+pub mod SwitchSound
+pub mod ShownLines
+pub mod StoreSound
+pub mod RunSound
+pub mod RunSteps
+pub mod SlotEnds
+pub mod SwitchOver
+pub mod SwitchSteady
+pub mod SwitchSteps
+mod NotesKept
+mod FlowSerials
+mod ClosingShown
+mod NoteSteps

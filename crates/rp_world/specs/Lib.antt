@@ -1,0 +1,8 @@
+pub mod Running
+pub mod Store
+pub mod Lease
+pub mod Steady
+pub mod OneEach
+pub mod SoundRows
+pub mod SlotEnds
+pub mod Endings

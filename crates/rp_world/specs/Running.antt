@@ -1,0 +1,65 @@
+-- A world as its callers see it, and what its calls do.
+use Rattle.std.specs.Prelude.{ℕ, ◌≤◌, ◌≡◌, Bool, false, List, length, Option, Some, None, filter_map}
+use Rattle.rp_base.specs.declared.event.Event.{Event}
+use Rattle.rp_base.specs.declared.line.Line.{Line as Shown}
+use Rattle.rp_base.specs.Clocks.{TermsHold}
+use Rattle.rp_app.specs.Application.{Application}
+use Rattle.proto_data.specs.declared.terms.Terms.{Terms}
+use Rattle.proto_data.specs.declared.terms.Mode.{Mode}
+use Rattle.proto_model.specs.Lines.{Line, Release, Dropped, LostLine, Refused, Stranger, Send, Serial, Epoch, CellsLine, End}
+use Rattle.proto_model.specs.World.{World, opened}
+use Rattle.proto_model.specs.WorldStep.{world_step}
+use Rattle.rp_world.specs.declared.world.Setup.{Setup}
+
+-- the application, the state of the run, and whether memory ran out
+pub record Running (A : Type 0) : Type 0 where
+  pub app : A
+  pub world : World
+  pub failed : Bool
+
+-- terms within their limits, by which a lease has ended at its switch before the store gives the flow to another
+pub record IsTerms (terms : Terms) : Type 0 where
+  pub some_switch : 1 ≤ terms.t_switch
+  pub switch_fits : terms.t_switch ≤ 1000000
+  pub some_store : 1 ≤ terms.t_store
+  pub store_fits : terms.t_store ≤ 1000000
+  pub ratio_fits : terms.ratio ≤ 1000
+  pub hold : TermsHold terms.t_switch terms.t_store terms.ratio
+
+-- what a run begins with: one switch and one replica in strict mode
+pub record IsSetup (setup : Setup) : Type 0 where
+  pub one_switch : setup.switches ≡ 1
+  pub one_replica : setup.replicas ≡ 1
+  pub strict : setup.terms.mode ≡ Mode.Strict
+  pub terms : IsTerms setup.terms
+
+-- the events that a run may have: a packet of at most 1,500 bytes, and the next frame
+abbrev pub IsEvent : Event → Type 0
+IsEvent (Event.Feed port bytes) = length bytes ≤ 1500
+IsEvent Event.Next = Unit {0}
+IsEvent _ = ⊥
+
+-- a line as the report shows it; a sent frame isn't shown
+abbrev pub line_of : Line → Option Shown
+line_of (Release event mark port bytes) = Some (Shown.Release event mark port bytes)
+line_of (Dropped event mark cause) = Some (Shown.Drop event mark cause)
+line_of (LostLine event cause) = Some (Shown.Lost event cause)
+line_of (Refused event cause) = Some (Shown.Refused event cause)
+line_of (Stranger event node) = Some (Shown.Stranger event node)
+line_of (Send event frame from to kind msg) = None
+line_of (Serial key marks) = Some (Shown.Serial key marks)
+line_of (Epoch key epoch kept marks) = Some (Shown.Epoch key epoch kept marks)
+line_of (CellsLine key cells) = Some (Shown.Cells key cells)
+line_of End = Some Shown.End
+
+abbrev pub shown : List Line → List Shown
+shown lines = filter_map line_of lines
+
+-- the world before its first event, of an application with so many cells
+abbrev pub opened_as : ℕ → Setup → World
+opened_as cells setup =
+    opened cells (record { switches = setup.switches; replicas = setup.replicas; terms = setup.terms; linked = false })
+
+-- the world after an event, with the lines that it writes
+abbrev pub stepped : Application → World → Event → World × List Shown
+stepped app w e = ((world_step app w e).0, shown (world_step app w e).1)

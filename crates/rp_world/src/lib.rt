@@ -1,0 +1,24 @@
+//! The world of a run: its nodes, the frames between them, and the history.
+#![tactic(auto)]
+
+mod closing;
+mod event_lines;
+mod flow_notes;
+mod history;
+mod records;
+mod replica;
+mod run;
+mod step_notes;
+mod store_did;
+mod switch;
+mod switch_acts;
+mod switch_copies;
+mod switch_did;
+mod switch_lease;
+mod switch_ring;
+mod switch_rows;
+mod switch_slot;
+mod switch_slots;
+mod world;
+
+pub use world::{Setup, World};

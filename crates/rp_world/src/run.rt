@@ -1,0 +1,188 @@
+//! The run of one switch and one replica.
+ghost use Rattle.std.specs.Prelude.{ℕ, ◌≡◌, ◌<◌, ◌≤◌, false, length, slice_get, IfOk, OnOk};
+ghost use Rattle.std.specs.Option.{option_copied};
+ghost use Rattle.rp_base.specs.declared.event.Event.{Event as EventValue};
+ghost use Rattle.proto_data.specs.declared.terms.Mode.{Mode as ModeValue};
+ghost use Rattle.proto_model.specs.World.{opened};
+ghost use Rattle.proto_model.specs.EndLines.{end_lines};
+ghost use Rattle.rp_world.specs.Running.{stepped, shown};
+ghost use Rattle.rp_world.specs.OneEach.{IsSound};
+
+use crate::closing::closing_lines;
+use crate::history::History;
+use crate::replica::Replica;
+use crate::step_notes::{Booked, note_store, note_switch, refused};
+use crate::switch::Switch;
+use proto_model::{Chain, Config, Msg, Terms};
+use rp_app::App;
+use rp_base::{Bytes, Lines, NoMemory, Node, Packet, Refusal};
+use std::alloc::Global;
+use std::marker::Model;
+
+/// How many frames a run may have.
+const FRAMES: usize = 65536;
+
+/// How many frames one event may send.
+const FRAMES_AN_EVENT: usize = 64;
+
+/// The frame with this number, if there is one.
+fn frame_at(frames: &[Msg], number: usize) -> Option<&Msg>
+    ensures { option_copied result ≡ slice_get frames.now number }
+{
+    frames.get(number)
+}
+
+/// The world of one switch and one replica, both running from the start, whose clocks stand at 0.
+#[derive(Drop)]
+pub(crate) struct Run {
+    terms: Terms,
+    switch: Switch,
+    replica: Replica,
+    book: Vec<Booked>,
+    frames: Vec<Msg>,
+    /// How many frames were passed: those with the least numbers.
+    passed: usize,
+    /// The number of the last event.
+    event: u64,
+    history: History,
+    alloc: Global,
+}
+
+impl Model for Run {
+    ghost use Rattle.proto_model.specs.World.{World as WorldValue};
+    ghost use Rattle.rp_world.specs.OneEach.{one_each};
+
+    ghost Value = { WorldValue };
+
+    ghost view = { λ r. one_each r.terms r.switch r.replica r.book.items r.frames.items r.passed r.event r.history };
+}
+
+impl Run {
+    /// The world before its first event.
+    ///
+    /// # Errors
+    /// `NoMemory`.
+    pub(crate) fn open(alloc: Global, cells: u16, terms: &Terms) -> Result<Run, NoMemory>
+        requires mode { terms.now.mode ≡ ModeValue.Strict }
+        requires term { terms.now.t_switch ≤ 1000000 }
+        ensures made { IfOk result (λ made. made ≡ opened cells (record { switches = 1; replicas = 1; terms = terms.now; linked = false })) }
+        ensures sound { IfOk result (λ made. IsSound cells made) }
+    {
+        let mut chain = Chain::new();
+        chain.push(0);
+        let config = Config { number: 1, chain };
+        Ok(Run {
+            terms: *terms,
+            switch: Switch::open(alloc, 0, 1, terms, &config)?,
+            replica: Replica::open(alloc, cells, *terms),
+            book: Vec::new(alloc),
+            frames: Vec::new(alloc),
+            passed: 0,
+            event: 0,
+            history: History::new(alloc),
+            alloc,
+        })
+    }
+
+    /// How many frames were sent.
+    pub(crate) fn frames(&self) -> u64
+        ensures { result ≡ length self.now.frames }
+    {
+        self.frames.len() as u64
+    }
+
+    /// The lines that a report of this run ends with.
+    ///
+    /// # Errors
+    /// `NoMemory`.
+    pub(crate) fn closing(&self) -> Result<Lines, NoMemory>
+        ensures { IfOk result (λ lines. (cells : ℕ) → IsSound cells self.now → lines ≡ shown (end_lines cells self.now)) }
+    {
+        let lines = closing_lines(
+            self.alloc,
+            self.replica.records(),
+            &self.book,
+            self.history.items(),
+        )?;
+        Ok(lines)
+    }
+
+    /// A packet is fed to the switch.
+    ///
+    /// # Errors
+    /// `NoMemory`; then nothing is said of the run.
+    pub(crate) fn feed<A: App>(
+        &mut self,
+        app: &A,
+        port: u16,
+        bytes: &Bytes,
+    ) -> Result<Lines, NoMemory>
+        requires sound { IsSound (A.meaning app.now).cell_count self.old }
+        requires count { self.old.event < 1000000000 }
+        ensures step { IfOk result (λ lines. (self.new, lines) ≡ stepped (A.meaning app.now) self.old (EventValue.Feed port bytes.now)) }
+        ensures sound { OnOk result (IsSound (A.meaning app.now).cell_count self.new) }
+    {
+        self.event += 1;
+        if self.frames.len() + FRAMES_AN_EVENT > FRAMES {
+            return refused(self.alloc, self.event, Refusal::FramesFull);
+        }
+        let packet = Packet {
+            mark: self.event,
+            port,
+            bytes: bytes.copy()?,
+        };
+        let did = self.switch.on_packet(app, 0, &packet)?;
+        self.history.push_fed(self.event, packet)?;
+        note_switch(
+            self.alloc,
+            self.event,
+            &mut self.frames,
+            &mut self.history,
+            did,
+        )
+    }
+
+    /// The next frame arrives at its addressee.
+    ///
+    /// # Errors
+    /// `NoMemory`; then nothing is said of the run.
+    pub(crate) fn next<A: App>(&mut self, app: &A) -> Result<Lines, NoMemory>
+        requires sound { IsSound (A.meaning app.now).cell_count self.old }
+        requires count { self.old.event < 1000000000 }
+        ensures step { IfOk result (λ lines. (self.new, lines) ≡ stepped (A.meaning app.now) self.old EventValue.Next) }
+        ensures sound { OnOk result (IsSound (A.meaning app.now).cell_count self.new) }
+    {
+        self.event += 1;
+        if self.frames.len() + FRAMES_AN_EVENT > FRAMES {
+            return refused(self.alloc, self.event, Refusal::FramesFull);
+        }
+        let Some(msg) = frame_at(&self.frames, self.passed) else {
+            return refused(self.alloc, self.event, Refusal::NoneLeft);
+        };
+        self.passed += 1;
+        match msg.to {
+            Node::Switch(_) => {
+                let did = self.switch.on_msg(app, 0, msg)?;
+                note_switch(
+                    self.alloc,
+                    self.event,
+                    &mut self.frames,
+                    &mut self.history,
+                    did,
+                )
+            }
+            Node::Replica(_) => {
+                let did = self.replica.on_msg(0, msg)?;
+                note_store(
+                    self.alloc,
+                    self.event,
+                    0,
+                    &mut self.frames,
+                    &mut self.book,
+                    did,
+                )
+            }
+            Node::Master => unreachable!(),
+        }
+    }
+}

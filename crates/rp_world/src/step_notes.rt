@@ -1,0 +1,126 @@
+//! What the world notes of a node's step: frames, history, the replica's book and lines.
+ghost use Rattle.std.specs.Prelude.{◌≡◌, ◌++◌, [], ◌∷◌, ℕ, IfOk, OnOk};
+ghost use Rattle.rp_base.specs.declared.line.Line.{Line as LineValue};
+ghost use Rattle.proto_model.specs.Effects.{added, history_after, switch_lines, store_lines};
+ghost use Rattle.proto_model.specs.Lines.{Refused};
+ghost use Rattle.rp_world.specs.Running.{shown};
+
+use crate::event_lines;
+use crate::history::History;
+use crate::store_did::StoreDid;
+use crate::switch_did::SwitchDid;
+use proto_model::{Entry, Msg};
+use rp_base::{Line, Lines, NoMemory, Refusal};
+use std::alloc::Global;
+use std::marker::Model;
+
+/// An entry that a replica applied, with its clock and the number of the event.
+#[derive(Debug, Drop)]
+pub(crate) struct Booked {
+    pub(crate) entry: Entry,
+    pub(crate) moment: u64,
+    pub(crate) event: u64,
+}
+
+impl Model for Booked {
+    ghost use Rattle.proto_model.specs.Records.{Booked as BookedValue};
+
+    ghost Value = { BookedValue };
+
+    ghost view = { λ b. record { entry = b.entry; moment = b.moment; event = b.event } };
+}
+
+/// Writes down what a switch did in strict mode, in which it begins no rounds.
+///
+/// # Errors
+/// `NoMemory`.
+pub(crate) fn note_switch(
+    alloc: Global,
+    event: u64,
+    frames: &mut Vec<Msg>,
+    history: &mut History,
+    did: SwitchDid,
+) -> Result<Lines, NoMemory>
+    requires begun { did.begun ≡ [] }
+    ensures frames { OnOk result (frames.new.items ≡ frames.old.items ++ did.sent) }
+    ensures history { OnOk result (history.new ≡ history_after event history.old did) }
+    ensures lines { IfOk result (λ lines. (frame : ℕ) → lines ≡ shown (switch_lines event frame did)) }
+{
+    let SwitchDid {
+        mut sent,
+        released,
+        item,
+        dropped,
+        begun: _,
+        lost,
+    } = did;
+    let lines = event_lines::switch_lines(alloc, event, &released, dropped, lost)?;
+    history.push_item(event, item, &released, &sent)?;
+    history.push_released(event, released)?;
+    frames.append(&mut sent)?;
+    Ok(lines)
+}
+
+/// Writes down what a replica did at the clock `now`.
+///
+/// # Errors
+/// `NoMemory`.
+pub(crate) fn note_store(
+    alloc: Global,
+    event: u64,
+    now: u64,
+    frames: &mut Vec<Msg>,
+    book: &mut Vec<Booked>,
+    did: StoreDid,
+) -> Result<Lines, NoMemory>
+    ensures frames { OnOk result (frames.new.items ≡ frames.old.items ++ did.sent) }
+    ensures book { OnOk result (book.new.items ≡ book.old.items ++ added (λ e. record { entry = e; moment = now; event = event }) did.applied) }
+    ensures lines { IfOk result (λ lines. (frame : ℕ) → lines ≡ shown (store_lines event frame did)) }
+{
+    let StoreDid {
+        mut sent,
+        applied,
+        lost,
+    } = did;
+    let lines = event_lines::store_lines(alloc, event, lost)?;
+    push_booked(book, event, now, applied)?;
+    frames.append(&mut sent)?;
+    Ok(lines)
+}
+
+/// An entry comes last in the book.
+///
+/// # Errors
+/// `NoMemory`.
+fn push_booked(
+    book: &mut Vec<Booked>,
+    event: u64,
+    moment: u64,
+    applied: Option<Entry>,
+) -> Result<(), NoMemory>
+    ensures { OnOk result (book.new.items ≡ book.old.items ++ added (λ e. record { entry = e; moment = moment; event = event }) applied) }
+{
+    match applied {
+        Some(entry) => {
+            book.push(Booked {
+                entry,
+                moment,
+                event,
+            })?;
+            Ok(())
+        }
+        None => Ok(()),
+    }
+}
+
+/// The line of a refused event.
+///
+/// # Errors
+/// `NoMemory`.
+pub(crate) fn refused(alloc: Global, event: u64, cause: Refusal) -> Result<Lines, NoMemory>
+    ensures { IfOk result (λ lines. lines ≡ shown (Refused event cause ∷ [])) }
+{
+    let mut lines = Lines::new(alloc);
+    lines.push(Line::Refused { event, cause })?;
+    Ok(lines)
+}

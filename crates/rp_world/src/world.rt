@@ -1,0 +1,120 @@
+//! The world of a run.
+ghost use Rattle.std.specs.Prelude.{◌≡◌, ◌<◌, ◌≤◌, true, false, length, IfOk, OnOk, OnErr, IsErr};
+ghost use Rattle.proto_model.specs.EndLines.{end_lines};
+ghost use Rattle.rp_world.specs.Running.{IsSetup, IsEvent, opened_as, stepped, shown};
+ghost use Rattle.rp_world.specs.OneEach.{IsSound};
+
+use crate::run::Run;
+use proto_model::Terms;
+use rp_app::App;
+use rp_base::{Event, Lines, NoMemory};
+use std::alloc::Global;
+use std::marker::Model;
+
+/// How many nodes a run has, and the terms of its leases.
+#[derive(Clone, Copy, Debug, PartialEq, Eq)]
+pub struct Setup {
+    /// 1 to 8; one is built.
+    pub switches: u8,
+    /// 1 to 5; one is built.
+    pub replicas: u8,
+    pub terms: Terms,
+}
+
+/// The world of a run, event by event.
+#[derive(Drop)]
+pub struct World<A: App> {
+    app: A,
+    run: Run,
+    failed: bool,
+}
+
+impl<A: App> Model for World<A> {
+    ghost use Rattle.std.specs.Prelude.{◌≡◌, false};
+    ghost use Rattle.rp_world.specs.Running.{Running};
+    ghost use Rattle.rp_world.specs.OneEach.{IsSound};
+
+    ghost Value = { Running A };
+
+    ghost view = { λ w. record { app = w.app; world = w.run; failed = w.failed } };
+
+    ghost invariant = { λ w. w.failed ≡ false → IsSound (A.meaning w.app).cell_count w.run };
+}
+
+/// Takes one event.
+fn step<A: App>(app: &A, run: &mut Run, e: &Event) -> Result<Lines, NoMemory>
+    requires event { IsEvent e.now }
+    requires count { run.old.event < 1000000000 }
+    requires sound { IsSound (A.meaning app.now).cell_count run.old }
+    ensures step { IfOk result (λ lines. (run.new, lines) ≡ stepped (A.meaning app.now) run.old e.now) }
+    ensures sound { OnOk result (IsSound (A.meaning app.now).cell_count run.new) }
+{
+    match e {
+        Event::Feed { port, bytes } => run.feed(app, *port, bytes),
+        Event::Next => run.next(app),
+        _ => unreachable!(),
+    }
+}
+
+impl<A: App> World<A> {
+    /// The world before its first event: every node runs, and nothing has happened.
+    ///
+    /// The setup is one switch and one replica in strict mode with terms that hold, and the application has at most 32 cells.
+    ///
+    /// # Errors
+    /// `NoMemory`.
+    pub fn open(alloc: Global, app: A, setup: &Setup) -> Result<World<A>, NoMemory>
+        requires setup { IsSetup setup.now }
+        requires cells { (A.meaning app).cell_count ≤ 32 }
+        ensures { IfOk result (λ made. made ≡ record { app = app; world = opened_as (A.meaning app).cell_count setup.now; failed = false }) }
+    {
+        let run = Run::open(alloc, app.cells(), &setup.terms)?;
+        Ok(World {
+            app,
+            run,
+            failed: false,
+        })
+    }
+
+    /// Takes one event, and gives the lines that it writes. Events are numbered from 1.
+    ///
+    /// # Errors
+    /// `NoMemory`, and from then on each call answers it; nothing is said of the rest of the world.
+    pub fn on(&mut self, e: &Event) -> Result<Lines, NoMemory>
+        requires event { IsEvent e.now }
+        requires count { self.old.world.event < 1000000000 }
+        ensures ok { IfOk result (λ lines. (self.new.world, lines) ≡ stepped (A.meaning self.old.app) self.old.world e.now) }
+        ensures app { self.new.app ≡ self.old.app }
+        ensures err { OnErr result (self.new.failed ≡ true) }
+        ensures stays { self.old.failed ≡ true → IsErr result }
+    {
+        if self.failed {
+            return Err(NoMemory);
+        }
+        let result = step(&self.app, &mut self.run, e);
+        self.failed = result.is_err();
+        result
+    }
+
+    /// The lines that a report ends with: each flow's serial list and committed cells, in order of first grant, and the end.
+    ///
+    /// # Errors
+    /// `NoMemory`.
+    pub fn closing(&self) -> Result<Lines, NoMemory>
+        ensures ok { IfOk result (λ lines. lines ≡ shown (end_lines (A.meaning self.now.app).cell_count self.now.world)) }
+        ensures stays { self.now.failed ≡ true → IsErr result }
+    {
+        if self.failed {
+            return Err(NoMemory);
+        }
+        let lines = self.run.closing()?;
+        Ok(lines)
+    }
+
+    /// How many frames were sent.
+    pub fn frames(&self) -> u64
+        ensures { result ≡ length self.now.world.frames }
+    {
+        self.run.frames()
+    }
+}
