@@ -2,9 +2,13 @@
 #![tactic(auto)]
 
 mod chain;
+mod fits;
 mod message;
 mod terms;
 
 pub use chain::{Chain, Chunk};
 pub use message::{Body, Carried, Config, Echoed, Entry, Input, Msg, Record};
 pub use terms::{Mode, Terms};
+
+#[cfg(test)]
+mod tests;

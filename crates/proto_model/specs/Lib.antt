@@ -21,7 +21,6 @@ pub mod Legal
 pub mod Kept
 pub mod EndLines
 pub mod Handing
-pub mod MessageFits
 pub mod Pumping
 pub mod Loss
 pub mod Runs

@@ -60,10 +60,10 @@ with_cell (d ∷ ds) cell v =
 
 -- ---- what is promised of every application
 
--- an output has its packet's mark and at most 1,500 bytes
+-- an output has its packet's mark, at most 1,500 bytes, and a port of two bytes where the packet's is one
 abbrev pub IsOutputOf : Packet → Option Output → Type 0
 IsOutputOf p None = Unit {0}
-IsOutputOf p (Some o) = (o.mark ≡ p.mark) × (length o.bytes ≤ 1500)
+IsOutputOf p (Some o) = (o.mark ≡ p.mark) × (length o.bytes ≤ 1500) × (p.port < 65536 → o.port < 65536)
 
 -- What every application keeps to, for every packet and all lists of as many cells as its flows have:
 -- a key has 1 to 16 bytes, a delta names cells that there are, an output is the packet's own,

@@ -19,7 +19,7 @@ key_short (b ∷ bs) key e = subst IsShort e (lit≤ tt, lit≤ tt)
 
 -- the count in front of a packet is its output
 counted_is : (p : Packet) (n : ℕ) → IsOutputOf p (counted p n)
-counted_is p n = cond_both (leb (length (big_endian n ++ p.bytes)) 1500) _ None (IsOutputOf p) (λ e. (refl, leb-true _ _ e)) (λ e. tt)
+counted_is p n = cond_both (leb (length (big_endian n ++ p.bytes)) 1500) _ None (IsOutputOf p) (λ e. (refl, leb-true _ _ e, λ h. h)) (λ e. tt)
 
 -- a delta with no cell but 0
 abbrev OnlyFirst : Delta → Type 0

@@ -3,7 +3,7 @@ use Rattle.std.proofs.Common.{◌≡◌, ℕ, ◌+◌, ◌^◌, ◌≤◌, ◌<�
 use Rattle.std.proofs.lemmas.Bool.{cond_both, ltb-true, lt-ltb, leb-true, le-leb, eqb-true, eqb-false, eq-eqb, and_parts, and_from}
 use Rattle.rp_app.specs.Application.{Delta}
 use Rattle.proto_data.specs.declared.message.Carried.{Carried}
-use Rattle.proto_model.specs.MessageFits.{is_u32, key_fits, load_fits, mark_fits, delta_fits}
+use Rattle.proto_data.specs.MessageFits.{is_u32, key_fits, load_fits, mark_fits, delta_fits}
 use Rattle.rp_frame.specs.Ranges.{all_bytes, all_values, delta_in, load_in}
 use Rattle.rp_frame.specs.Spelling.{number_bytes, short_bytes, key_bytes, cells_bytes, delta_bytes, carried_bytes, load_bytes, mark_bytes}
 use Rattle.rp_frame.specs.Reading.{Reader, and_then, ◌>>=◌, done, whole, number, short, byte, key, cells, delta, carried, load, mark}

@@ -6,7 +6,7 @@ use Rattle.proto_data.specs.declared.message.Carried.{Carried}
 use Rattle.proto_data.specs.declared.message.Entry.{Entry}
 use Rattle.proto_data.specs.declared.message.Echoed.{Echoed}
 use Rattle.proto_data.specs.declared.message.Body.{Body}
-use Rattle.proto_model.specs.MessageFits.{is_u32, mark_fits, rises}
+use Rattle.proto_data.specs.MessageFits.{is_u32, mark_fits, rises}
 use Rattle.rp_frame.specs.Spelling.{number_bytes, key_bytes, cells_bytes, delta_bytes, load_bytes, mark_bytes, entry_bytes, echoed_bytes, kind}
 use Rattle.rp_frame.specs.Reading.{Reader, ◌>>=◌, byte, load, mark, members, grant_entry, put_entry, snap_entry, entry, ask_echo, put_echo, echoed, chain, ask, grant, busy, put, ack, deny, forward, have, echo, config, snap, body}
 use Rattle.rp_frame.proofs.Codecs.{IsBytes, Codec, chained, recoded, restated}

@@ -4,7 +4,7 @@ use Rattle.std.proofs.lemmas.Bool.{eqb-true, eq-eqb, cases_lt}
 use Rattle.std.proofs.lemmas.List.{append-nil, nil_from_length, length-drop, get_or_past}
 use Rattle.std.specs.Prelude.{IfOk}
 use Rattle.proto_data.specs.declared.message.Msg.{Msg}
-use Rattle.proto_model.specs.MessageFits.{message_fits}
+use Rattle.proto_data.specs.MessageFits.{message_fits}
 use Rattle.rp_frame.specs.declared.frame_end.FrameEnd.{FrameEnd}
 use Rattle.rp_frame.specs.Spelling.{spelling}
 use Rattle.rp_frame.specs.Reading.{message, all_of, Gives}

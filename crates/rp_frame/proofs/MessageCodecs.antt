@@ -5,7 +5,7 @@ use Rattle.rp_base.specs.declared.node.Node.{Node}
 use Rattle.proto_data.specs.declared.message.Entry.{Entry}
 use Rattle.proto_data.specs.declared.message.Echoed.{Echoed}
 use Rattle.proto_data.specs.declared.message.Body.{Body}
-use Rattle.proto_model.specs.MessageFits.{is_u32, mark_fits, key_fits, load_fits, cells_fit, delta_fits, switch_fits, entry_spelled, echoed_fits, body_fits, is_switch, is_store}
+use Rattle.proto_data.specs.MessageFits.{is_u32, mark_fits, key_fits, load_fits, cells_fit, delta_fits, switch_fits, entry_spelled, echoed_fits, body_fits, is_switch, is_store}
 use Rattle.rp_frame.specs.Ranges.{all_bytes, all_values, delta_in, load_in, entry_in, echoed_in, body_in}
 use Rattle.rp_frame.specs.Spelling.{node_byte, body_bytes}
 use Rattle.rp_frame.specs.Reading.{Reader, byte, switch, replica, master, runner}

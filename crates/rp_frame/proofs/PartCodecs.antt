@@ -3,7 +3,7 @@ use Rattle.std.proofs.Common.{◌≡◌, ℕ, zero, suc, ◌+◌, ◌^◌, ◌�
 use Rattle.std.specs.Int.{w16, w32, w64, byte_len, from_be_bytes}
 use Rattle.std.specs.List.{flat_map, list_all}
 use Rattle.std.proofs.lemmas.Bool.{false≢true, ltb-true, lt-ltb, leb-true, le-leb, eqb-true, eq-eqb, and_parts, and_from}
-use Rattle.proto_model.specs.MessageFits.{is_u32, key_fits, delta_fits, rises, firsts}
+use Rattle.proto_data.specs.MessageFits.{is_u32, key_fits, delta_fits, rises, firsts}
 use Rattle.rp_app.specs.Application.{Delta}
 use Rattle.rp_frame.specs.Ranges.{all_bytes, all_values, delta_in}
 use Rattle.rp_frame.specs.Spelling.{number_bytes, short_bytes, value_bytes, key_bytes, cells_bytes, member_bytes, delta_bytes}

@@ -7,7 +7,7 @@ use Rattle.std.proofs.lemmas.Slice.Eq.{bytes_eq-Decides}
 use Rattle.rp_base.specs.declared.node.Node.{Node}
 use Rattle.proto_data.specs.declared.message.Body.{Body}
 use Rattle.proto_data.specs.declared.message.Msg.{Msg}
-use Rattle.proto_model.specs.MessageFits.{nodes_fit, message_fits, is_switch, is_store, from_master}
+use Rattle.proto_data.specs.MessageFits.{nodes_fit, message_fits, is_switch, is_store, from_master}
 use Rattle.rp_frame.specs.Ranges.{body_in}
 use Rattle.rp_frame.specs.Spelling.{spelling, kind, node_byte, body_bytes}
 use Rattle.rp_frame.specs.Reading.{Reader, and_then, ◌>>=◌, done, whole, byte, letters, switch, replica, runner, sender, addressee, body, message}

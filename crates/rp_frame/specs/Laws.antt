@@ -1,7 +1,7 @@
 -- What holds of the spelling of messages.
 use Rattle.std.specs.Prelude.{◌≡◌, ◌<◌, ℕ, List, [], ◌++◌, true, All, Ok}
 use Rattle.proto_data.specs.declared.message.Msg.{Msg}
-use Rattle.proto_model.specs.MessageFits.{message_fits}
+use Rattle.proto_data.specs.MessageFits.{message_fits}
 use Rattle.rp_frame.specs.Ranges.{body_in}
 use Rattle.rp_frame.specs.Spelling.{spelling}
 use Rattle.rp_frame.specs.Reading.{all_of}

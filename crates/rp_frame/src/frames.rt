@@ -1,7 +1,7 @@
 //! The reader of frames.
 ghost use Rattle.std.specs.Prelude.{◌≡◌, ◌≤◌, true, length, Ok, IfOk};
 ghost use Rattle.proto_data.specs.declared.message.Msg.{Msg as MsgValue};
-ghost use Rattle.proto_model.specs.MessageFits.{message_fits};
+ghost use Rattle.proto_data.specs.MessageFits.{message_fits};
 ghost use Rattle.rp_frame.specs.Spelling.{spelling};
 ghost use Rattle.rp_frame.specs.Laws.{IsMessage};
 ghost use Rattle.rp_frame.specs.Reading.{Gives, switch, replica, master, runner, sender, addressee, letters, message, all_of};

@@ -1,7 +1,7 @@
 //! The parts of frames, written.
 ghost use Rattle.std.specs.Prelude.{◌≡◌, ◌≤◌, ◌<◌, ◌^◌, ◌++◌, ◌∷◌, true, length, OnOk, IfOk};
 ghost use Rattle.std.specs.List.{flat_map};
-ghost use Rattle.proto_model.specs.MessageFits.{message_fits, load_fits, mark_fits};
+ghost use Rattle.proto_data.specs.MessageFits.{message_fits, load_fits, mark_fits};
 ghost use Rattle.rp_frame.specs.Spelling.{number_bytes, short_bytes, value_bytes, member_bytes, key_bytes, cells_bytes, delta_bytes, load_bytes, mark_bytes, node_byte, spelling, kind};
 
 use crate::writing_kinds::put_body;

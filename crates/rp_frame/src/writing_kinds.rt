@@ -3,7 +3,7 @@ ghost use Rattle.std.specs.Prelude.{◌≡◌, ◌++◌, true, OnOk};
 ghost use Rattle.proto_data.specs.declared.message.Body.{Body as BodyValue};
 ghost use Rattle.proto_data.specs.declared.message.Entry.{Entry as EntryValue};
 ghost use Rattle.proto_data.specs.declared.message.Echoed.{Echoed as EchoedValue};
-ghost use Rattle.proto_model.specs.MessageFits.{body_fits, entry_spelled, echoed_fits, config_fits};
+ghost use Rattle.proto_data.specs.MessageFits.{body_fits, entry_spelled, echoed_fits, config_fits};
 ghost use Rattle.rp_frame.specs.Spelling.{body_bytes, entry_bytes, echoed_bytes, config_bytes};
 
 use crate::writing::{

@@ -9,7 +9,6 @@ use Rattle.proto_data.specs.declared.message.Echoed.{Echoed}
 use Rattle.proto_data.specs.declared.message.Carried.{Carried}
 use Rattle.proto_data.specs.declared.message.Config.{Config}
 use Rattle.rp_app.specs.Application.{Delta}
-use Rattle.proto_model.specs.Table.{Key}
 
 -- a number of four bytes
 abbrev pub is_u32 : ℕ → Bool
@@ -29,7 +28,7 @@ abbrev pub firsts : Delta → List ℕ
 firsts [] = []
 firsts (d ∷ ds) = d.0 ∷ firsts ds
 
-abbrev pub key_fits : Key → Bool
+abbrev pub key_fits : List ℕ → Bool
 key_fits key = nat_le 1 (length key) && nat_le (length key) 16
 
 abbrev pub cells_fit : List ℕ → Bool
