@@ -7,6 +7,7 @@
 pub mod books;
 pub mod first_facts;
 pub mod lease_basis;
+pub mod leases;
 pub mod legal;
 pub mod marks;
 pub mod replies;
