@@ -115,3 +115,4 @@ pub mod LegalNow
 pub mod LegalRun
 pub mod SerialOnce
 pub mod LeasesStand
+pub mod CellsStand

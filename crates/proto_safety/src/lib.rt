@@ -5,6 +5,7 @@
 #![tactic(auto)]
 
 pub mod books;
+pub mod cells;
 pub mod first_facts;
 pub mod lease_basis;
 pub mod leases;
