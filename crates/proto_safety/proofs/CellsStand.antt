@@ -1,5 +1,5 @@
 -- What the protocol promises of cells, of one world and over every run in strict mode whose terms hold.
-use Rattle.std.proofs.Common.{◌≡◌, ◌⊎◌, inl, inr, ℕ, ◌+◌, ◌≤◌, ◌<◌, List, [], ◌∷◌, ◌++◌, map, filter, Option, Some, None, arith, refl, sym, ap, ◌∙◌, subst, true, false, Bool, slice_get, zero, suc, append_assoc, eqb-true}
+use Rattle.std.proofs.Common.{◌≡◌, inl, inr, ℕ, ◌+◌, ◌≤◌, List, [], ◌∷◌, ◌++◌, map, filter, Option, Some, None, arith, refl, sym, ap, ◌∙◌, subst, false, slice_get, zero, suc, append_assoc, eqb-true}
 use Rattle.std.specs.Prelude.{◌==◌, nat_lt, nat_le, flat_map, option_and_then}
 use Rattle.std.proofs.lemmas.Bool.{and_parts}
 use Rattle.std.proofs.lemmas.List.{map-append}
@@ -11,13 +11,13 @@ use Rattle.proto_data.specs.declared.message.Entry.{Entry}
 use Rattle.proto_data.specs.declared.message.Carried.{Carried}
 use Rattle.proto_data.specs.declared.terms.Mode.{Mode}
 use Rattle.rp_app.specs.Application.{Application, IsApplication, Delta}
-use Rattle.proto_model.specs.Table.{Key, same_key}
+use Rattle.proto_model.specs.Table.{Key}
 use Rattle.proto_model.specs.Feeds.{Each, key_at}
 use Rattle.proto_model.specs.Committed.{committed_book, serial_marks, is_closed, is_in, closing_of}
 use Rattle.proto_model.specs.Legal.{StandsIn}
 use Rattle.proto_model.specs.Stands.{entries_of}
-use Rattle.proto_model.specs.Slot.{Slot, Asking, epoch_of}
-use Rattle.proto_model.specs.SwitchState.{Copy, is_of, slot_at}
+use Rattle.proto_model.specs.Slot.{Slot, Asking}
+use Rattle.proto_model.specs.SwitchState.{Copy, is_of}
 use Rattle.proto_model.specs.World.{World, Setup, SwitchNode, ReplicaNode, Fed, Journaled, Released, opened}
 use Rattle.proto_model.specs.WorldStep.{world_after}
 use Rattle.proto_safety.specs.Books.{In, Runs, committed_of}
@@ -26,7 +26,6 @@ use Rattle.proto_safety.specs.LeaseLaws.{First, SlotAt}
 use Rattle.proto_safety.specs.Origins.{PutSent}
 use Rattle.proto_safety.proofs.CellFacts.{CellFacts, SentPut, closing_entries}
 use Rattle.proto_safety.proofs.CellsGround.{OverLate, put_frame}
-use Rattle.proto_safety.proofs.Chains.{each_in}
 use Rattle.proto_safety.proofs.EventFrames.{at_behind}
 use Rattle.proto_safety.proofs.FlowAlarm.{in_filter}
 use Rattle.proto_safety.proofs.FlowCells.{nobody_in}
@@ -43,7 +42,7 @@ use Rattle.proto_safety.proofs.ReleasesStep.{Shown, keyless, of_item}
 use Rattle.proto_safety.proofs.SerialLists.{epochs_in, journal_in, closed_in, serial_in, front_in, flat_map_same, filter_no, filter_like}
 use Rattle.proto_safety.proofs.SerialOnce.{serial_place}
 use Rattle.proto_safety.proofs.SwitchCells.{SlotStands}
-use Rattle.proto_safety.proofs.Tables.{same_key-refl, same_key-true}
+use Rattle.proto_safety.proofs.Tables.{same_key-true}
 use Rattle.proto_safety.proofs.WorldOrigins.{NodeOrigins}
 use Rattle.proto_safety.proofs.WorldPuts.{Awaited}
 use Rattle.proto_safety.proofs.WorldShown.{ShownFacts, ShownIn}

@@ -1,16 +1,14 @@
 -- What the protocol promises of leases, over every run in strict mode whose terms hold.
-use Rattle.std.proofs.Common.{◌≡◌, ℕ, ◌≤◌, List, [], Some, refl, sym, ◌∙◌, subst, slice_get}
+use Rattle.std.proofs.Common.{◌≡◌, ℕ, ◌≤◌, List, [], sym, ◌∙◌, subst}
 use Rattle.rp_base.specs.Clocks.{TermsHold}
 use Rattle.rp_base.specs.declared.event.Event.{Event}
 use Rattle.proto_data.specs.declared.terms.Mode.{Mode}
 use Rattle.rp_app.specs.Application.{Application}
 use Rattle.proto_model.specs.Table.{Key}
-use Rattle.proto_model.specs.Slot.{Slot}
-use Rattle.proto_model.specs.World.{World, Setup, SwitchNode, opened}
+use Rattle.proto_model.specs.World.{World, Setup, opened}
 use Rattle.proto_model.specs.WorldStep.{world_after}
-use Rattle.proto_safety.specs.Books.{In}
-use Rattle.proto_safety.specs.Firsts.{firsts_of, firsts_after}
-use Rattle.proto_safety.specs.LeaseLaws.{First, AskOf, NumberOf, NotLater, HasNonce, SlotAt, Leases}
+use Rattle.proto_safety.specs.Firsts.{firsts_of}
+use Rattle.proto_safety.specs.LeaseLaws.{First, AskOf, NumberOf, Leases}
 use Rattle.proto_safety.specs.Origins.{AskSent}
 use Rattle.proto_safety.proofs.CellsGround.{OverLate}
 use Rattle.proto_safety.proofs.FirstsInduction.{firsts_kept}
