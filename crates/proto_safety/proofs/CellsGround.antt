@@ -196,7 +196,7 @@ module _ (app : Application) (w : World) (b : Based app w) (o : OverLate w) wher
       from_case (Node.Replica n) h = absurd h
       from_case Node.Master h = absurd h
 
-  put_frame : (e k : ℕ) (key : Key) (delta : Delta) → SentPut w.frames key e k delta → (n : ℕ) × ((inc : ℕ) × PutFrame w.frames n inc key e k)
+  pub put_frame : (e k : ℕ) (key : Key) (delta : Delta) → SentPut w.frames key e k delta → (n : ℕ) × ((inc : ℕ) × PutFrame w.frames n inc key e k)
   put_frame e k key delta q =
       let n = from_switch q.msg q.there (rw q.body_is tt) in
       (n.0, (q.inc, record { msg = q.msg; there = q.there; from_is = n.1; delta = delta; load = q.load; body_is = q.body_is }))

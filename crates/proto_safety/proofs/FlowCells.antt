@@ -41,7 +41,7 @@ pub record CellsOf (app : Application) (fed : List Fed) (es : List Entry) (items
 is_of_key : (key : Key) (e : ℕ) (j : Journaled) → is_in key e j ≡ true → (j.item.key ≡ key) × (j.item.epoch ≡ e)
 is_of_key key e j is = let p = and_parts _ _ is in (same_key-true j.item.key key p.0, eqb-true j.item.epoch e p.1)
 
-nobody_in : {A : Type 0} (xs : List A) → ((x : A) → In xs x → ⊥) → xs ≡ []
+pub nobody_in : {A : Type 0} (xs : List A) → ((x : A) → In xs x → ⊥) → xs ≡ []
 nobody_in [] h = refl
 nobody_in (x ∷ xs) h = absurd (h x (inl refl))
 

@@ -204,7 +204,7 @@ ending_kept app =
 pub ends_leases : (app : Application) (w : World) (fs : List First) → Laid app w → Ending fs w → OverLate w
 ends_leases app w fs l h = over_late app.cell_count w fs l.0.0.0 h.1.0 h.0.1
 
-opened_ending : (app : Application) (setup : Setup) → TermsHold setup.terms.t_switch setup.terms.t_store setup.terms.ratio → 1 ≤ setup.terms.t_store → Ending [] (opened app.cell_count setup)
+pub opened_ending : (app : Application) (setup : Setup) → TermsHold setup.terms.t_switch setup.terms.t_store setup.terms.ratio → 1 ≤ setup.terms.t_store → Ending [] (opened app.cell_count setup)
 opened_ending app setup hold some = (
   (
     record {

@@ -113,7 +113,7 @@ fed_found (g ∷ gs) m f at = found_case (g.packet.mark == m) refl at (fed_found
 
 -- ---- the serial lists of books
 
-epochs_same : (key : Key) (book : List Booked) → epochs_of key book ≡ epochs_in key (entries_of book)
+pub epochs_same : (key : Key) (book : List Booked) → epochs_of key book ≡ epochs_in key (entries_of book)
 epochs_same key [] = refl
 epochs_same key (b ∷ bs) = same_case (epoch_granted key b.entry) (epochs_same key bs)
   where

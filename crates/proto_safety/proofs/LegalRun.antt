@@ -182,6 +182,13 @@ module _ (app : Application) (is : IsApplication app) (E : World → Type 0) (e 
   pub lawful_kept : Keeps app Lawful
   lawful_kept = keeps_both app Showing (OrderIn app) showing_kept (order_kept app is Showing showing_kept (λ w i. shown_facts w i.0))
 
+  -- what is known of the cells after every list of events
+  pub known_after : (setup : Setup) (events : List Event) → Ended (opened app.cell_count setup) →
+      (Laid app (world_after app (opened app.cell_count setup) events) × OverLate (world_after app (opened app.cell_count setup) events)) × (ShownFacts app (world_after app (opened app.cell_count setup) events) × ShownIn app (world_after app (opened app.cell_count setup) events))
+  known_after setup events start =
+      let h : Showing (world_after app (opened app.cell_count setup) events) = run_kept app Showing showing_kept events (opened app.cell_count setup) ((start, opened_cells app setup), opened_shown app setup) in
+      ((h.0.0.0, ends (world_after app (opened app.cell_count setup) events) h.0.0.0 h.0.0.1), (shown_facts (world_after app (opened app.cell_count setup) events) h.0, h.1))
+
   -- a serial list goes on at its end, so what stands before a released mark there stays
   pub serial_stays : (setup : Setup) (events more : List Event) → Ended (opened app.cell_count setup) → SerialStays app (world_after app (opened app.cell_count setup) events) (world_after app (world_after app (opened app.cell_count setup) events) more)
   serial_stays setup events more start key front behind r i keyed marks =

@@ -25,21 +25,21 @@ past m js = filter (λ (j : Journaled). not (nat_le j.item.number m)) js
 abbrev pub NumbersRise : List Journaled → Type 0
 NumbersRise js = Pairwise (λ (a b : Journaled). a.item.number ≤ b.item.number) js
 
-le_not : (a m : ℕ) → m < a → nat_le a m ≡ false
+pub le_not : (a m : ℕ) → m < a → nat_le a m ≡ false
 le_not a m lt = le_case (nat_le a m) refl
   where
     le_case : (b : Bool) → nat_le a m ≡ b → b ≡ false
     le_case true is = let le : a ≤ m = leb-true a m is in absurd (omega arith)
     le_case false is = refl
 
-lt_not : (a k : ℕ) → k ≤ a → nat_lt a k ≡ false
+pub lt_not : (a k : ℕ) → k ≤ a → nat_lt a k ≡ false
 lt_not a k le = lt_case (nat_lt a k) refl
   where
     lt_case : (b : Bool) → nat_lt a k ≡ b → b ≡ false
     lt_case true is = let lt : a < k = ltb-true a k is in absurd (omega arith)
     lt_case false is = refl
 
-eq_not : (a k : ℕ) → a ≢ k → (a == k) ≡ false
+pub eq_not : (a k : ℕ) → a ≢ k → (a == k) ≡ false
 eq_not a k ne = eq_case (a == k) refl
   where
     eq_case : (b : Bool) → (a == k) ≡ b → b ≡ false

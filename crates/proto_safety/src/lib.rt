@@ -5,8 +5,10 @@
 #![tactic(auto)]
 
 pub mod books;
+pub mod cells;
 pub mod first_facts;
 pub mod lease_basis;
+pub mod leases;
 pub mod legal;
 pub mod marks;
 pub mod replies;
