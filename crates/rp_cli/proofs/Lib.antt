@@ -2,4 +2,4 @@ pub mod Fronts
 pub mod Schedules
 pub mod ReportTexts
 pub mod EventCounts
-pub mod LegalReports
+pub mod LegalRuns

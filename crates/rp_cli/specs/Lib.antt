@@ -1,3 +1,4 @@
 pub mod Ports
 pub mod Reports
 pub mod Top
+pub mod Seen

@@ -1,7 +1,7 @@
 -- The run that a schedule asks for, and the text of its report.
-use Rattle.std.specs.Prelude.{◌≡◌, ℕ, false, List, Option, Some, None}
+use Rattle.std.specs.Prelude.{ℕ, false, List, Option, Some, None}
 use Rattle.rp_base.specs.declared.event.Event.{Event}
-use Rattle.rp_app.specs.Application.{Application, IsApplication, counting}
+use Rattle.rp_app.specs.Application.{Application, counting}
 use Rattle.proto_data.specs.declared.terms.Mode.{Mode}
 use Rattle.proto_model.specs.Legal.{IsLegal}
 use Rattle.proto_model.specs.World.{Setup as WorldSetup, opened}
@@ -38,12 +38,6 @@ report_text app setup events = lines_text (shown (report false app (unlinked set
 abbrev pub counting_report : Schedule → List ℕ
 counting_report s = report_text counting (setup_of s) s.events
 
--- This text is the report of a run with a legal history: what it shows of each flow is what one switch that never fails gives
--- along the flow's serial list.
-pub record IsLegalReport (text : List ℕ) : Type 0 where
-  pub app : Application
-  pub setup : Setup
-  pub events : List Event
-  pub keeps : IsApplication app
-  pub text_is : text ≡ report_text app setup events
-  pub legal : IsLegal app (world_after app (opened app.cell_count (unlinked setup)) events)
+-- What the run of a schedule shows of each flow is what one switch that never fails gives along the flow's serial list.
+abbrev pub IsLegalRun : Schedule → Type 0
+IsLegalRun s = IsLegal counting (world_after counting (opened counting.cell_count (unlinked (setup_of s))) s.events)

@@ -1,5 +1,5 @@
 -- What the program answers, and what it writes.
-use Rattle.std.specs.Prelude.{◌≡◌, ℕ, Bool, List, [], ◌∷◌, if◌then◌else◌, ◌&&◌, Option, Some, None, Result, Ok, Err, codes}
+use Rattle.std.specs.Prelude.{◌≡◌, ℕ, List, [], ◌∷◌, if◌then◌else◌, Option, Some, None, Result, Ok, Err, codes}
 use Rattle.std.specs.Str.{bytes_eq}
 use Rattle.rp_base.specs.Outside.{Grows, GrowsByFront}
 use Rattle.sched_lang.specs.declared.schedule.Schedule.{Schedule}
@@ -10,17 +10,24 @@ use Rattle.rp_cli.specs.Reports.{counting_report}
 
 -- ---- the command
 
--- a command that runs the counting application
-abbrev pub is_counting_run : List ℕ → List ℕ → Bool
-is_counting_run command app = bytes_eq command (codes "run") && bytes_eq app (codes "@count")
+-- what a command line asks for
+pub data Command : Type 0 where
+  -- the report of this schedule, in which packets are counted
+  Counts : (schedule : List ℕ) → Command
+  -- a run of this program; programs don't run yet
+  Runs : (program : List ℕ) → Command
 
--- The name of the schedule in a command line that has a form. There is one form: `run @count` and the name of a schedule.
-abbrev pub form_of : List (List ℕ) → Option (List ℕ)
+-- the command that runs this application over this schedule
+abbrev pub command_by : List ℕ → List ℕ → Command
+command_by app schedule = if bytes_eq app (codes "@count") then Counts schedule else Runs app
+
+-- The command of a command line that has a form. There is one form: `run`, an application and the name of a schedule.
+abbrev pub form_of : List (List ℕ) → Option Command
 form_of [] = None
-form_of (command ∷ []) = None
-form_of (command ∷ app ∷ []) = None
-form_of (command ∷ app ∷ name ∷ []) = if is_counting_run command app then Some name else None
-form_of (command ∷ app ∷ name ∷ word ∷ words) = None
+form_of (first ∷ []) = None
+form_of (first ∷ app ∷ []) = None
+form_of (first ∷ app ∷ schedule ∷ []) = if bytes_eq first (codes "run") then Some (command_by app schedule) else None
+form_of (first ∷ app ∷ schedule ∷ word ∷ words) = None
 
 -- ---- the outcome
 
@@ -34,18 +41,28 @@ abbrev pub schedule_in : Option (List ℕ) → Result Schedule Status
 schedule_in None = Err status.InputFault
 schedule_in (Some text) = read_or_refused (schedule_of text)
 
+-- the answer of a program's content: it must be there, and doesn't run yet
+abbrev pub program_in : Option (List ℕ) → Status
+program_in None = status.InputFault
+program_in (Some text) = status.Usage
+
+abbrev pub asked_at : Option Command → (List ℕ → Option (List ℕ)) → Result Schedule Status
+asked_at None contents = Err status.Usage
+asked_at (Some (Counts schedule)) contents = schedule_in (contents schedule)
+asked_at (Some (Runs program)) contents = Err (program_in (contents program))
+
+-- the schedule that these words ask for over inputs with these contents, or the answer in its place
+abbrev pub asked : List (List ℕ) → (List ℕ → Option (List ℕ)) → Result Schedule Status
+asked words contents = asked_at (form_of words) contents
+
 -- the report of a run, or the answer in place of a schedule
 abbrev pub reported_or : Result Schedule Status → Result (List ℕ) Status
 reported_or (Ok s) = Ok (counting_report s)
 reported_or (Err answer) = Err answer
 
-abbrev pub outcome_at : Option (List ℕ) → (List ℕ → Option (List ℕ)) → Result (List ℕ) Status
-outcome_at None contents = Err status.Usage
-outcome_at (Some name) contents = reported_or (schedule_in (contents name))
-
 -- what is written for these words over inputs with these contents, or the answer in its place
 abbrev pub outcome : List (List ℕ) → (List ℕ → Option (List ℕ)) → Result (List ℕ) Status
-outcome words contents = outcome_at (form_of words) contents
+outcome words contents = reported_or (asked words contents)
 
 -- ---- what an answer means
 
@@ -95,11 +112,16 @@ IsDoneOrNoMemory status.NoMemory = Unit {0}
 abbrev pub Loads : Result Schedule Status → Result Schedule Status → Type 0
 Loads (Ok s) expected = expected ≡ Ok s
 Loads (Err status.Done) expected = ⊥
-Loads (Err status.Usage) expected = ⊥
+Loads (Err status.Usage) expected = expected ≡ Err status.Usage
 Loads (Err (status.ScheduleRefused line why)) expected = expected ≡ Err (status.ScheduleRefused line why)
 Loads (Err status.InputFault) expected = Unit {0}
 Loads (Err status.OutputFault) expected = ⊥
 Loads (Err status.NoMemory) expected = Unit {0}
+
+-- This holds of the schedule.
+abbrev pub IsOkWith : (Schedule → Type 0) → Result Schedule Status → Type 0
+IsOkWith P (Ok s) = P s
+IsOkWith P (Err answer) = ⊥
 
 -- the answers in place of a schedule
 abbrev pub IsNoSchedule : Status → Type 0
@@ -109,6 +131,21 @@ IsNoSchedule (status.ScheduleRefused line why) = Unit {0}
 IsNoSchedule status.InputFault = Unit {0}
 IsNoSchedule status.OutputFault = ⊥
 IsNoSchedule status.NoMemory = Unit {0}
+
+-- the answers where a program is asked for
+abbrev pub IsNoProgram : Status → Type 0
+IsNoProgram status.Done = ⊥
+IsNoProgram status.Usage = Unit {0}
+IsNoProgram (status.ScheduleRefused line why) = ⊥
+IsNoProgram status.InputFault = Unit {0}
+IsNoProgram status.OutputFault = ⊥
+IsNoProgram status.NoMemory = Unit {0}
+
+-- Faulty words have one answer, a program only the answers in its place, and counting never the answer of faulty words.
+abbrev pub IsAnswerTo : Option Command → Status → Type 0
+IsAnswerTo None answer = answer ≡ status.Usage
+IsAnswerTo (Some (Counts schedule)) answer = ¬ (answer ≡ status.Usage)
+IsAnswerTo (Some (Runs program)) answer = IsNoProgram answer
 
 -- the exit status
 abbrev pub number_of : Status → ℕ

@@ -8,7 +8,7 @@ use sched_lang::SchedWhy;
 pub enum Status {
     /// All is written.
     Done,
-    /// The words have no form.
+    /// The words have no form, or ask for a program: programs don't run yet.
     Usage,
     /// The first line of the schedule that fails, from 1, and why. The whole text has line 0.
     ScheduleRefused { line: u64, why: SchedWhy },

@@ -161,7 +161,7 @@ fn refusals_write_nothing(rt: HostRuntime) -> Result<(), Fail> {
 fn faults_end_the_run(rt: HostRuntime) -> Result<(), Fail> {
     let alloc = rt.alloc();
     // the words, the call at which the sink fails, and what comes of it
-    let rows: [(&[u8], u64, Status, &[u8]); 3] = [
+    let rows: [(&[u8], u64, Status, &[u8]); 5] = [
         (b"run @count x", 9, Status::Done, ONE_PACKET_REPORT),
         (
             b"run @count x",
@@ -170,6 +170,8 @@ fn faults_end_the_run(rt: HostRuntime) -> Result<(), Fail> {
             b"release 5 1 7 00000000000000016121\nserial 61 1\n",
         ),
         (b"run @count nofile", 9, Status::InputFault, b""),
+        (b"run nofile x", 9, Status::InputFault, b""),
+        (b"run x x", 9, Status::Usage, b""),
     ];
     for (line, call, wanted, text) in rows {
         let words = words(alloc, line)?;

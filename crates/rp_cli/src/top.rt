@@ -1,12 +1,12 @@
 //! The top call: what the program does over any inputs, sink, link and clock.
-ghost use Rattle.std.specs.Prelude.{◌≡◌, ◌↔◌, [], None, Some, IfSome, IfOk, IfErr, IsOk, IsErrOf};
-ghost use Rattle.std.specs.Option.{option_copied};
+ghost use Rattle.std.specs.Prelude.{◌≡◌, [], None, Some, Err, IfSome, IfOk, IfErr, IsOk, IsErrOf, option_map};
 ghost use Rattle.rp_base.specs.Outside.{Grows, Rose};
 ghost use Rattle.rp_world.specs.Running.{IsSetup};
 ghost use Rattle.sched_lang.specs.Reading.{schedule_of};
 ghost use Rattle.sched_lang.specs.Ready.{IsReady};
-ghost use Rattle.rp_cli.specs.Reports.{setup_of as setup_for, IsLegalReport};
-ghost use Rattle.rp_cli.specs.Top.{form_of, is_counting_run as is_counting, outcome, read_or_refused, schedule_in, Answers, Loads, IsBeforeRun, IsAfterRun, IsNoSchedule, IsDoneOrNoMemory};
+ghost use Rattle.rp_cli.specs.Reports.{setup_of as setup_for, IsLegalRun};
+ghost use Rattle.rp_cli.specs.Seen.{seen};
+ghost use Rattle.rp_cli.specs.Top.{form_of, asked, outcome, read_or_refused, schedule_in, program_in, Answers, Loads, IsOkWith, IsAnswerTo, IsBeforeRun, IsAfterRun, IsNoSchedule, IsNoProgram, IsDoneOrNoMemory};
 
 use crate::running::{Stop, write_report};
 use crate::status::Status;
@@ -17,30 +17,50 @@ use rp_world::Setup;
 use sched_lang::{SchedEnd, Schedule};
 use std::alloc::Global;
 
-// The most bytes that a schedule has.
+// The most bytes that a program has, and a schedule.
+const PROGRAM_LIMIT: u64 = 262144;
+
 const SCHEDULE_LIMIT: u64 = 4194304;
 
-// Whether a command runs the counting application.
-fn is_counting_run(command: &Bytes, app: &Bytes) -> bool
-    ensures { result ≡ is_counting command.now app.now }
-{
-    command.as_slice() == b"run".as_slice() && app.as_slice() == b"@count".as_slice()
+/// What a command line asks for.
+enum Command<'a> {
+    /// The report of this schedule, in which packets are counted.
+    Count(&'a [u8]),
+    /// A run of this program.
+    Program(&'a [u8]),
 }
 
-// The name of the schedule that the words give; `None` exactly where they have no form.
-fn name_of(words: &Words) -> Option<&[u8]>
-    ensures { option_copied result ≡ form_of words.now }
+// What the words ask for; `None` exactly where they have no form.
+fn command_of(words: &Words) -> Option<Command<'_>>
+    ensures { option_map seen result ≡ form_of words.now }
 {
     if words.len() != 3 {
         return None;
     }
-    let command = words.at(0)?;
+    let first = words.at(0)?;
     let app = words.at(1)?;
-    let name = words.at(2)?;
-    if is_counting_run(command, app) {
-        Some(name.as_slice())
+    let schedule = words.at(2)?;
+    if first.as_slice() != b"run".as_slice() {
+        return None;
+    }
+    if app.as_slice() == b"@count".as_slice() {
+        Some(Command::Count(schedule.as_slice()))
     } else {
-        None
+        Some(Command::Program(app.as_slice()))
+    }
+}
+
+// The answer where a program is asked for: its file is loaded, and programs don't run yet.
+fn unbuilt<I: Inputs>(alloc: Global, name: &[u8], inputs: &mut I) -> Status
+    ensures told { IfSome (I.contents inputs.old) (λ contents. Loads (Err result) (Err (program_in (contents name.now)))) }
+    ensures ends { IsNoProgram result }
+    ensures input { result ≡ Status.InputFault → Rose (I.faults inputs.old) (I.faults inputs.new) }
+{
+    let mut text = Bytes::new(alloc);
+    match inputs.load(name, PROGRAM_LIMIT, &mut text) {
+        Ok(()) => Status::Usage,
+        Err(InputEnd::Failed) => Status::InputFault,
+        Err(InputEnd::NoMemory) => Status::NoMemory,
     }
 }
 
@@ -103,14 +123,14 @@ pub fn rp_main<I: Inputs, K: Sink, L: Link, C: Clock>(
     link: &mut L,
     clock: &mut C,
 ) -> Status
-    ensures usage { (result ≡ Status.Usage) ↔ (form_of words.now ≡ None) }
+    ensures usage { IsAnswerTo (form_of words.now) result }
 
     // where the inputs tell their contents
     ensures told { IfSome (I.contents inputs.old) (λ contents.
         Answers result (outcome words.now contents) (K.written out.old) (K.written out.new)) }
     // what was written, whole or in part, is the report of a run that one switch could have shown
     ensures legal { IfSome (I.contents inputs.old) (λ contents.
-        IsAfterRun result → IfOk (outcome words.now contents) IsLegalReport) }
+        IsAfterRun result → IsOkWith IsLegalRun (asked words.now contents)) }
     ensures complete { IfSome (I.contents inputs.old) (λ contents. IsOk (outcome words.now contents) →
         ¬ Rose (I.faults inputs.old) (I.faults inputs.new) → ¬ Rose (K.faults out.old) (K.faults out.new) → IsDoneOrNoMemory result) }
 
@@ -122,19 +142,20 @@ pub fn rp_main<I: Inputs, K: Sink, L: Link, C: Clock>(
 {
     let _ = link;
     let _ = clock;
-    let Some(name) = name_of(words) else {
-        return Status::Usage;
-    };
-    match loaded(alloc, name, inputs) {
-        Err(status) => status,
-        Ok(schedule) => {
-            let setup = setup_of(&schedule);
-            let events = schedule.events.as_slice();
-            match write_report(alloc, CountApp { alloc }, &setup, events, out) {
-                Ok(()) => Status::Done,
-                Err(Stop::Failed) => Status::OutputFault,
-                Err(Stop::NoMemory) => Status::NoMemory,
+    match command_of(words) {
+        None => Status::Usage,
+        Some(Command::Program(name)) => unbuilt(alloc, name, inputs),
+        Some(Command::Count(name)) => match loaded(alloc, name, inputs) {
+            Err(status) => status,
+            Ok(schedule) => {
+                let setup = setup_of(&schedule);
+                let events = schedule.events.as_slice();
+                match write_report(alloc, CountApp { alloc }, &setup, events, out) {
+                    Ok(()) => Status::Done,
+                    Err(Stop::Failed) => Status::OutputFault,
+                    Err(Stop::NoMemory) => Status::NoMemory,
+                }
             }
-        }
+        },
     }
 }
