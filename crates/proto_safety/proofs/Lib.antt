@@ -116,3 +116,4 @@ pub mod LegalRun
 pub mod SerialOnce
 pub mod LeasesStand
 pub mod CellsStand
+pub mod HeldRings
