@@ -117,3 +117,4 @@ pub mod SerialOnce
 pub mod LeasesStand
 pub mod CellsStand
 pub mod HeldRings
+pub mod RunSteps
