@@ -116,3 +116,5 @@ pub mod LegalRun
 pub mod SerialOnce
 pub mod LeasesStand
 pub mod CellsStand
+pub mod HeldRings
+pub mod RunSteps

@@ -77,7 +77,7 @@ pub record ReadyMarks (s : Switch) (input : Input) (key : Key) (slot : Slot) (p 
 own_mark : (m : ℕ) → one (m == m) ≡ 1
 own_mark m = ap one (eq-eqb m m refl)
 
-ready_marks : (app : Application) (s : Switch) (now : ℕ) {input : Input} {key : Key} {slot : Slot} {epoch : ℕ} {p : Packet} → Ready app s now input key slot epoch p → ReadyMarks s input key slot p
+pub ready_marks : (app : Application) (s : Switch) (now : ℕ) {input : Input} {key : Key} {slot : Slot} {epoch : ℕ} {p : Packet} → Ready app s now input key slot epoch p → ReadyMarks s input key slot p
 ready_marks app s now (fed {p = p} {slot = slot} of at is) =
     record { old = slot; at = at; asked = λ n. omega arith; held = refl; own = omega (arith, own_mark p.mark) }
 ready_marks app s now (at_grant {c = c} {slot = slot} t in_asked) =
