@@ -114,3 +114,5 @@ pub mod WorldSerial
 pub mod LegalNow
 pub mod LegalRun
 pub mod SerialOnce
+pub mod SizesUp
+pub mod SizesFit
