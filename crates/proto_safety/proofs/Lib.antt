@@ -116,3 +116,4 @@ pub mod LegalRun
 pub mod SerialOnce
 pub mod SizesUp
 pub mod SizesFit
+pub mod SizesOf
