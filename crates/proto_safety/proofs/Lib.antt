@@ -117,3 +117,4 @@ pub mod SerialOnce
 pub mod SizesUp
 pub mod SizesFit
 pub mod SizesOf
+pub mod AlarmSizes
