@@ -118,3 +118,4 @@ pub mod SizesUp
 pub mod SizesFit
 pub mod SizesOf
 pub mod AlarmSizes
+pub mod SwitchSizes
