@@ -118,3 +118,8 @@ pub mod LeasesStand
 pub mod CellsStand
 pub mod HeldRings
 pub mod RunSteps
+pub mod SizesUp
+pub mod SizesFit
+pub mod SizesOf
+pub mod AlarmSizes
+pub mod SwitchSizes
