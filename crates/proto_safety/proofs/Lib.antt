@@ -114,3 +114,6 @@ pub mod WorldSerial
 pub mod LegalNow
 pub mod LegalRun
 pub mod SerialOnce
+pub mod SizesUp
+pub mod SizesFit
+pub mod SizesOf
