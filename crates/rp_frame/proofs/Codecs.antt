@@ -1,5 +1,6 @@
 -- A reader and a way of spelling belong together: what is read was spelled so, and what is spelled so is read.
 use Rattle.std.proofs.Common.{◌≡◌, ℕ, zero, suc, ◌+◌, ◌-◌, ◌^◌, ◌≤◌, ◌<◌, List, [], ◌∷◌, ◌++◌, length, get_or, take, drop, Bool, true, false, cond, leb, ltb, eqb, ◌&&◌, Result, Ok, Err, arith, refl, sym, ap, subst, ◌∙◌, append_assoc, inl, inr}
+use Rattle.std.specs.List.{list_all}
 use Rattle.std.specs.Int.{Width, w16, w32, w64, byte_len, from_be_bytes, to_be_bytes, bytes_high_first, byte_at}
 use Rattle.std.proofs.lemmas.Bool.{cases_lt, ltb-false, ltb-true, lt-ltb, le-ltb, eqb-true, eq-eqb, and_parts, and_from}
 use Rattle.std.proofs.lemmas.List.{take_at, drop_at, take-append-drop, length-append, length-take, length-drop, get_or-drop, get_or-take, get_or_past, drop-drop}
@@ -139,9 +140,13 @@ restated {A} r C s F s' F' text test h = recoded r C s F C s' F' (λ x. x) (λ x
 
 -- ---- fields
 
+-- each member is below a limit
+pub all_below : (limit : ℕ) (xs : List ℕ) → ((i : ℕ) → get_or xs i 0 < limit) → list_all (λ x. ltb x limit) xs ≡ true
+all_below limit [] h = refl
+all_below limit (x ∷ xs) h = and_from _ _ (lt-ltb x limit (h 0)) (all_below limit xs (λ i. h (suc i)))
+
 pub all_bytes_from : (bs : List ℕ) → IsBytes bs → all_bytes bs ≡ true
-all_bytes_from [] h = refl
-all_bytes_from (b ∷ bs) h = and_from _ _ (lt-ltb b 256 (h 0)) (all_bytes_from bs (λ i. h (suc i)))
+all_bytes_from = all_below 256
 
 pub whole_is : (n : ℕ) → Codec (whole n) (λ b. b) (λ b. eqb (length b) n && all_bytes b)
 unfolding whole

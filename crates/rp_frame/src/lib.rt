@@ -9,12 +9,13 @@ mod kinds;
 mod laws;
 mod lists;
 mod parts;
+mod ranges;
 mod writing;
 mod writing_kinds;
 
 pub use frame_end::FrameEnd;
 pub use frames::decode;
-pub use writing::encode;
+pub use writing::{encode, kind_of};
 
 #[cfg(test)]
 mod tests;

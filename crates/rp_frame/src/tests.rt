@@ -92,3 +92,46 @@ fn faults_have_places(rt: HostRuntime) -> Result<(), Fail> {
     }
     Ok(())
 }
+
+// Where each field of a frame begins.
+const ASK_FIELDS: [u64; 14] = [0, 2, 3, 4, 5, 6, 10, 14, 15, 16, 17, 21, 23, 25];
+
+const GRANT_FIELDS: [u64; 17] = [0, 2, 3, 4, 5, 6, 10, 14, 18, 19, 20, 22, 30, 31, 35, 37, 39];
+
+const PUT_FIELDS: [u64; 18] = [
+    0, 2, 3, 4, 5, 6, 10, 14, 18, 19, 20, 22, 24, 32, 33, 37, 39, 41,
+];
+
+const ACK_FIELDS: [u64; 15] = [0, 2, 3, 4, 5, 6, 10, 14, 18, 19, 20, 21, 25, 27, 29];
+
+// The field that a cut leaves without its end, or without any byte.
+fn field_cut(fields: &[u64], len: usize) -> u64 {
+    let mut at = 0;
+    for start in fields {
+        if *start <= len as u64 {
+            at = *start;
+        }
+    }
+    at
+}
+
+#[test]
+fn frames_cut_after_each_byte(rt: HostRuntime) -> Result<(), Fail> {
+    let alloc = rt.alloc();
+    for (frame, fields) in [
+        (ASK.as_slice(), ASK_FIELDS.as_slice()),
+        (GRANT.as_slice(), GRANT_FIELDS.as_slice()),
+        (PUT.as_slice(), PUT_FIELDS.as_slice()),
+        (ACK.as_slice(), ACK_FIELDS.as_slice()),
+    ] {
+        for len in 0..frame.len() {
+            let at = field_cut(fields, len);
+            assert_eq!(rt;
+                decode(alloc, &frame[..len]).err(),
+                Some(FrameEnd::BadFrame { at }),
+                "cut after {len}"
+            );
+        }
+    }
+    Ok(())
+}

@@ -1,9 +1,11 @@
 //! The parts of frames, written.
-ghost use Rattle.std.specs.Prelude.{◌≡◌, ◌≤◌, ◌<◌, ◌^◌, ◌++◌, ◌∷◌, true, length, OnOk, IfOk};
+ghost use Rattle.std.specs.Prelude.{◌≡◌, ◌≤◌, ◌<◌, ◌^◌, ◌++◌, ◌∷◌, true, length, OnOk, IfOk, Ok};
 ghost use Rattle.std.specs.List.{flat_map};
 ghost use Rattle.proto_data.specs.MessageFits.{message_fits, load_fits, mark_fits};
+ghost use Rattle.rp_frame.specs.Reading.{all_of};
 ghost use Rattle.rp_frame.specs.Spelling.{number_bytes, short_bytes, value_bytes, member_bytes, key_bytes, cells_bytes, delta_bytes, load_bytes, mark_bytes, node_byte, spelling, kind};
 
+use crate::ranges::fields_in;
 use crate::writing_kinds::put_body;
 use proto_data::{Body, Carried, Msg};
 use rp_app::Delta;
@@ -125,7 +127,8 @@ fn byte_of(node: Node) -> u8
     }
 }
 
-fn kind_of(body: &Body) -> u8
+/// The byte of a message's kind, from 1 to 11.
+pub fn kind_of(body: &Body) -> u8
     ensures { result ≡ kind body.now }
 {
     match body {
@@ -149,7 +152,8 @@ fn kind_of(body: &Body) -> u8
 /// `NoMemory`.
 pub fn encode(alloc: Global, m: &Msg) -> Result<Bytes, NoMemory>
     requires { message_fits m.now ≡ true }
-    ensures { IfOk result (λ frame. frame ≡ spelling m.now) }
+    ensures spelled { IfOk result (λ frame. frame ≡ spelling m.now) }
+    ensures again { IfOk result (λ frame. all_of frame ≡ Ok m.now) }
 {
     let mut out = Bytes::new(alloc);
     out.append(&[
@@ -161,5 +165,6 @@ pub fn encode(alloc: Global, m: &Msg) -> Result<Bytes, NoMemory>
         byte_of(m.to),
     ])?;
     put_body(&mut out, &m.body)?;
+    fields_in(&m.body);
     Ok(out)
 }

@@ -1,10 +1,10 @@
 //! The fields of each kind of message, written.
-ghost use Rattle.std.specs.Prelude.{◌≡◌, ◌++◌, true, OnOk};
+ghost use Rattle.std.specs.Prelude.{◌≡◌, ◌<◌, ◌++◌, true, OnOk};
 ghost use Rattle.proto_data.specs.declared.message.Body.{Body as BodyValue};
 ghost use Rattle.proto_data.specs.declared.message.Entry.{Entry as EntryValue};
 ghost use Rattle.proto_data.specs.declared.message.Echoed.{Echoed as EchoedValue};
 ghost use Rattle.proto_data.specs.MessageFits.{body_fits, entry_spelled, echoed_fits, config_fits};
-ghost use Rattle.rp_frame.specs.Spelling.{body_bytes, entry_bytes, echoed_bytes, config_bytes};
+ghost use Rattle.rp_frame.specs.Spelling.{body_bytes, entry_bytes, echoed_bytes, config_bytes, kind};
 
 use crate::writing::{
     put_cells, put_delta, put_key, put_load, put_mark, put_number, put_three, put_two,
@@ -259,6 +259,17 @@ pub fn put_body(out: &mut Bytes, body: &Body) -> Result<(), NoMemory>
             delta,
             load,
         } => put_put(out, *inc, *epoch, *number, key, delta, load),
+        _ => put_later(out, body),
+    }
+}
+
+// The fields of a message of a kind above 4.
+fn put_later(out: &mut Bytes, body: &Body) -> Result<(), NoMemory>
+    requires fits { body_fits body.now ≡ true }
+    requires later { 4 < kind body.now }
+    ensures { OnOk result (out.new ≡ out.old ++ body_bytes body.now) }
+{
+    match body {
         Body::Ack {
             inc,
             epoch,
@@ -285,5 +296,6 @@ pub fn put_body(out: &mut Bytes, body: &Body) -> Result<(), NoMemory>
             chunks,
             cells,
         } => put_snap(out, *inc, *epoch, *round, key, *chunk, *chunks, cells),
+        _ => unreachable!(),
     }
 }
