@@ -118,3 +118,4 @@ pub mod LeasesStand
 pub mod CellsStand
 pub mod HeldRings
 pub mod RunSteps
+pub mod StraightStart
