@@ -119,3 +119,4 @@ pub mod CellsStand
 pub mod HeldRings
 pub mod RunSteps
 pub mod StraightStart
+pub mod StraightWaits
