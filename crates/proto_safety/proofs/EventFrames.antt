@@ -105,7 +105,7 @@ at_behind [] (y ∷ ys) (suc i) x at le = inr (at_behind [] ys i x at (omega ari
 at_behind (z ∷ zs) ys zero x at le = absurd (omega arith)
 at_behind (z ∷ zs) ys (suc i) x at le = at_behind zs ys i x at (omega arith)
 
-at_past : {A : Type 0} (xs : List A) (i : ℕ) (x : A) → slice_get xs i ≡ Some x → length xs ≤ i → ⊥
+pub at_past : {A : Type 0} (xs : List A) (i : ℕ) (x : A) → slice_get xs i ≡ Some x → length xs ≤ i → ⊥
 at_past [] i x at le = cc
 at_past (y ∷ ys) zero x at le = absurd (omega arith)
 at_past (y ∷ ys) (suc i) x at le = at_past ys i x at (omega arith)

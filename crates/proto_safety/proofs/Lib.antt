@@ -123,3 +123,5 @@ pub mod SizesFit
 pub mod SizesOf
 pub mod AlarmSizes
 pub mod SwitchSizes
+pub mod StraightStart
+pub mod StraightWaits

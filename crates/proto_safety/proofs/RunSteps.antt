@@ -34,7 +34,7 @@ pub record EventAt (r : Run) (i : ℕ) (act : Act) : Type 0 where
   pub fits : Fits (next_event (before r i)) act
   pub then : before r (i + 1) ≡ (perform_act r.app (next_event (before r i)) act).0
 
-one_later : (r : Run) (i : ℕ) (e : Event) → slice_get r.events i ≡ Some e → before r (i + 1) ≡ (world_step r.app (before r i) e).0
+pub one_later : (r : Run) (i : ℕ) (e : Event) → slice_get r.events i ≡ Some e → before r (i + 1) ≡ (world_step r.app (before r i) e).0
 one_later r i e at =
     let next : i + 1 ≡ suc i = omega arith in
     ap (λ k. world_after r.app (opened r.app.cell_count r.setup) (take k r.events)) next
