@@ -119,3 +119,4 @@ pub mod SizesFit
 pub mod SizesOf
 pub mod AlarmSizes
 pub mod SwitchSizes
+pub mod StoreSizes
