@@ -125,3 +125,4 @@ pub mod AlarmSizes
 pub mod SwitchSizes
 pub mod StraightStart
 pub mod StraightWaits
+pub mod StoreSizes
