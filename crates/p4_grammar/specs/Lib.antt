@@ -5,3 +5,6 @@ pub mod Trees
 pub mod ReadingExpressions
 pub mod ReadingStatements
 pub mod Reading
+pub mod GrammarExpressions
+pub mod GrammarStatements
+pub mod Grammar

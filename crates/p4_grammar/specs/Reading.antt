@@ -52,7 +52,7 @@ use Rattle.p4_grammar.specs.declared.mark.Spelled.{Spelled}
 use Rattle.p4_grammar.specs.Forms.{Reader, done_at, bind_at, taken_at, either_at, many_at, steps_at, option_at, all_at}
 use Rattle.p4_grammar.specs.Tokens.{is, name, number, the_name, in_hand, but, one_of, words_at, called}
 use Rattle.p4_grammar.specs.Values.{Env, known, cast_by, path_of, first_at, cast_value}
-use Rattle.p4_grammar.specs.Trees.{keyset_place, field_of, program_of, left_of, alone, no_properties, is_none, with_default, with_entries, with_size}
+use Rattle.p4_grammar.specs.Trees.{Declared, declared_more, start_of, is_const, keyset_place, field_of, program_of, left_of, alone, no_properties, is_none, with_default, with_entries, with_size}
 use Rattle.p4_grammar.specs.ReadingExpressions.{bool_type_at, std_type_at, name_type_at, word_type, word_type_at, type_at, names_at, path_at, parens_at, unary_at, expr_at, behind_at, expression_at, expressions_at, args_at}
 use Rattle.p4_grammar.specs.ReadingStatements.{slice_or_none_at, var_at, block_at}
 
@@ -81,13 +81,6 @@ declaration_at n env = either_at (in_hand sign.Header) (bind_at (header_at n) λ
     (either_at (in_hand sign.Struct) (bind_at (struct_at n) λ s. done_at (declaration.Struct s))
     (either_at (in_hand sign.Typedef) (bind_at typedef_at λ t. done_at (declaration.Typedef t))
     (bind_at (const_at n env) λ c. done_at (declaration.Const c))))
-
--- the typedefs so far, and the declarations
-abbrev pub Declared : Type 0
-Declared = Env × List P4Declaration
-
-abbrev pub declared_more : Declared → P4Declaration → Declared
-declared_more s d = (known s.0 d, s.1 ++ d ∷ [])
 
 abbrev pub begins_declaration : Token → Bool
 begins_declaration = one_of (sign.Header ∷ sign.Struct ∷ sign.Typedef ∷ sign.Const ∷ [])
@@ -194,15 +187,6 @@ acts_at n = bind_at (taken_at (is sign.Actions)) λ at. words_at (sign.Assign �
 
 unfoldable pub call_at : ℕ → Env → Reader P4Call
 call_at n env = bind_at (taken_at name) λ x. either_at (in_hand sign.Open) (bind_at (args_at n env) λ args. done_at (record { at = x.at; name = x; args = args })) (done_at (record { at = x.at; name = x; args = [] }))
-
--- behind `const` or without it, of the place `at` where one stands
-abbrev pub start_of : Option ℕ → ℕ → ℕ
-start_of None at = at
-start_of (Some first) at = first
-
-abbrev pub is_const : Option ℕ → Bool
-is_const None = false
-is_const (Some at) = true
 
 unfoldable pub default_at : ℕ → Env → Option ℕ → Reader P4Default
 default_at n env c = bind_at (taken_at (is sign.DefaultAction)) λ at. words_at (sign.Assign ∷ []) (bind_at (call_at n env) λ f. words_at (sign.Semicolon ∷ []) (done_at (record { at = start_of c at; const_ = is_const c; call = f })))

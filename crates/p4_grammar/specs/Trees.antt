@@ -7,6 +7,7 @@ use Rattle.p4_ast.specs.declared.expression.P4Expr.{P4Expr}
 use Rattle.p4_ast.specs.declared.declaration.P4Type.{P4Type}
 use Rattle.p4_ast.specs.declared.statement.P4Stmt.{P4Stmt}
 use Rattle.p4_ast.specs.declared.statement.P4Stmt.TheVariants as stmt
+use Rattle.p4_ast.specs.declared.control.P4Var.{P4Var}
 use Rattle.p4_ast.specs.declared.statement.P4Block.{P4Block, roll-P4Block}
 use Rattle.p4_ast.specs.declared.statement.P4If.{roll-P4If}
 use Rattle.p4_ast.specs.declared.statement.P4Cond.{P4Cond}
@@ -30,7 +31,7 @@ use Rattle.p4_grammar.specs.declared.mark.Piece.{Piece}
 use Rattle.p4_grammar.specs.declared.mark.Piece.TheVariants as piece
 use Rattle.p4_grammar.specs.declared.mark.Properties.{Properties}
 use Rattle.p4_grammar.specs.declared.mark.Spelled.{Spelled}
-use Rattle.p4_grammar.specs.Values.{first_at, path_of, type_place}
+use Rattle.p4_grammar.specs.Values.{Env, known, first_at, path_of, type_place}
 
 -- the statements that a block keeps of this piece
 abbrev pub kept : Piece → List P4Stmt
@@ -100,6 +101,9 @@ call_piece x args = piece.Stmt x.at (stmt.Callstmt (record { at = x.at; name = x
 abbrev pub key_piece : ℕ → P4Expr → Piece
 key_piece at x = piece.Stmt at (stmt.Keystmt (record { at = at; expr = x }))
 
+abbrev pub var_piece : P4Var → Piece
+var_piece v = piece.Stmt v.at (stmt.Var v)
+
 -- ---- what a path with a last name of its own is a call of
 
 -- the single name of a list
@@ -153,3 +157,19 @@ program_place (d ∷ ds) p = declaration_place d
 
 abbrev pub program_of : List P4Declaration → P4Parser → P4Ingress → P4Deparser → P4Package → P4Program
 program_of ds p i d k = record { at = program_place ds p; declarations = ds; parser = p; ingress = i; deparser = d; «package» = k }
+
+-- the typedefs so far, and the declarations
+abbrev pub Declared : Type 0
+Declared = Env × List P4Declaration
+
+abbrev pub declared_more : Declared → P4Declaration → Declared
+declared_more s d = (known s.0 d, s.1 ++ d ∷ [])
+
+-- behind `const` or without it, of the place `at` where one stands
+abbrev pub start_of : Option ℕ → ℕ → ℕ
+start_of None at = at
+start_of (Some first) at = first
+
+abbrev pub is_const : Option ℕ → Bool
+is_const None = false
+is_const (Some at) = true
