@@ -1,0 +1,6 @@
+//! The grammar of programs as a relation of trees and tokens, and the function that reads a tree from tokens.
+#![tactic(auto)]
+
+mod mark;
+
+pub use mark::{Mark, Piece, Properties, Spelled};
