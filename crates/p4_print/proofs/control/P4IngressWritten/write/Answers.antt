@@ -1,0 +1,9 @@
+use Rattle.std.specs.Prelude.{codes}
+use Rattle.p4_print.specs.Text.{text}
+use Rattle.p4_print.specs.Programs.{ingress_tokens}
+use Rattle.p4_print.proofs.Steps.{last, texts}
+use Rattle.p4_print.proofs.control.P4IngressWritten.write.Goals as goal
+
+pub returns : goal.returns
+unfolding ingress_tokens
+returns c = last c.append-4.result c.args.out.now c.write-2.new.out (codes "}\n") (text (ingress_tokens c.args.self.now)) c.append-4.new.self c.append-4.ensures.ok (rw (c.in_ok-write-2.ensures, c.in_ok-append-3.ensures.ok, c.in_ok-write_all.ensures, c.as_slice.ensures, c.in_ok-append-2.ensures.ok, c.in_ok-write_inputs.ensures, c.in_ok-write.ensures, c.in_ok-append.ensures.ok) (simp texts))
