@@ -120,3 +120,4 @@ pub mod HeldRings
 pub mod RunSteps
 pub mod StraightStart
 pub mod StraightWaits
+pub mod StraightHops
