@@ -121,3 +121,4 @@ pub mod RunSteps
 pub mod StraightStart
 pub mod StraightWaits
 pub mod StraightHops
+pub mod StraightTail

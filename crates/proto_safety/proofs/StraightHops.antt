@@ -100,6 +100,7 @@ pub record Appending (r : Run) (h : Hop) (e : Entry) (c : Carried) : Type 0 wher
   pub at : slice_get (before r h.place).replicas n ≡ Some node
   pub up : node.runs ≡ true
   pub to_is : h.msg.to ≡ Node.Replica n
+  pub sent : slice_get (before r h.place).frames h.frame ≡ Some h.msg
   pub step_is : store_step node.state node.clock (Input.Msg h.msg) ≡ appended node.state node.clock e (Some c)
   pub after : before r (h.place + 1) ≡ replica_moved (frame_passed (next_event (before r h.place)) h.frame) n node (store_step node.state node.clock (Input.Msg h.msg))
 
@@ -108,6 +109,7 @@ record Reached (r : Run) (h : Hop) (node : ReplicaNode) : Type 0 where
   to_is : h.msg.to ≡ Node.Replica n
   at : slice_get (before r h.place).replicas n ≡ Some node
   up : node.runs ≡ true
+  sent : slice_get (before r h.place).frames h.frame ≡ Some h.msg
   after : before r (h.place + 1) ≡ replica_moved (frame_passed (next_event (before r h.place)) h.frame) n node (store_step node.state node.clock (Input.Msg h.msg))
 
 reached_at : (r : Run) (h : Hop) (node : ReplicaNode) → act_at r h.place ≡ Some (Delivers h.frame h.msg) → reached r h ≡ Some node → Reached r h node
@@ -124,6 +126,7 @@ reached_at r h node delivered is = to_case h.msg.to refl is
           to_is = to;
           at = at;
           up = ap runs_at_replica (sym at) ∙ up;
+          sent = e.fits.0;
           after = e.then ∙ (ap (λ (k : Node). (node_takes r.app (frame_passed (next_event (before r h.place)) h.frame) k (Input.Msg h.msg)).0) to ∙ ap (λ o. (replica_takes (frame_passed (next_event (before r h.place)) h.frame) n (Input.Msg h.msg) o).0) at);
         }
 
@@ -141,14 +144,14 @@ appending r c h next node e delivered is s only = only_case only
     q = reached_at r h node delivered is
 
     only_case : OnlyAppends node.state node.clock e c (store_row node.state node.clock (Input.Msg h.msg)) → Appending r h e c
-    only_case (inl row) = record { n = q.n; node = node; at = q.at; up = q.up; to_is = q.to_is; step_is = ap (λ x. store_perform node.state node.clock x) row; after = q.after }
+    only_case (inl row) = record { n = q.n; node = node; at = q.at; up = q.up; to_is = q.to_is; sent = q.sent; step_is = ap (λ x. store_perform node.state node.clock x) row; after = q.after }
     only_case (inr none) = absurd (none next.msg (sent_on r c h next node q s) s.carries)
 
 appended_on : (r : Run) (c : Carried) (h next : Hop) (e : Entry) (a : Appending r h e c) → SentAt r c h.place next → CarriedOn a.node.state a.node.clock e c next.msg
 appended_on r c h next e a s =
     carried_on a.node.state a.node.clock e c next.msg
     (subst (λ (x : StoreStep). In x.1.sent next.msg) a.step_is
-    (sent_on r c h next a.node (record { n = a.n; to_is = a.to_is; at = a.at; up = a.up; after = a.after }) s)) s.carries
+    (sent_on r c h next a.node (record { n = a.n; to_is = a.to_is; at = a.at; up = a.up; sent = a.sent; after = a.after }) s)) s.carries
 
 -- ---- to the tail
 
