@@ -122,3 +122,4 @@ pub mod StraightStart
 pub mod StraightWaits
 pub mod StraightHops
 pub mod StraightTail
+pub mod StraightPuts

@@ -164,7 +164,7 @@ pub record Answered (r : Run) (c : Carried) (e : Entry) (last : Hop) : Type 0 wh
   pub there : In (owner_answer (with_entry here.node.state e here.node.clock) e (Some c) (record_at (with_entry here.node.state e here.node.clock) (entry_key e))) last.msg
   pub later : hop.place < last.place
 
-next_hop : (r : Run) (c : Carried) (place : ℕ) (hs : List Hop) (last : Hop) → Hops r c place hs last → (next : Hop) × SentAt r c place next
+pub next_hop : (r : Run) (c : Carried) (place : ℕ) (hs : List Hop) (last : Hop) → Hops r c place hs last → (next : Hop) × SentAt r c place next
 next_hop r c place [] last h = (last, h)
 next_hop r c place (x ∷ hs) last h = (x, h.0)
 
