@@ -123,3 +123,4 @@ pub mod StraightWaits
 pub mod StraightHops
 pub mod StraightTail
 pub mod StraightPuts
+pub mod CopyRoom
