@@ -124,3 +124,4 @@ pub mod StraightHops
 pub mod StraightTail
 pub mod StraightPuts
 pub mod CopyRoom
+pub mod StraightAsks

@@ -59,7 +59,7 @@ module _ (r : Run) (c : Carried) (e : Entry) (last : Hop) (a : Answered r c e la
   state_is : after.state ≡ record (with_entry a.here.node.state e a.here.node.clock) { known = a.here.node.state.applied + 1 }
   state_is = ap (λ (x : StoreStep). x.0) a.step_is
 
-  entries_are : entries_of after.book ≡ entries_of a.here.node.book ++ e ∷ []
+  pub entries_are : entries_of after.book ≡ entries_of a.here.node.book ++ e ∷ []
   entries_are =
       ap (λ (x : StoreStep). entries_of (book_after a.here.node.clock (was.event + 1) a.here.node.book x.1.applied)) a.step_is
       ∙ entries_of-push a.here.node.book (record { entry = e; moment = a.here.node.clock; event = was.event + 1 })
@@ -71,7 +71,7 @@ module _ (r : Run) (c : Carried) (e : Entry) (last : Hop) (a : Answered r c e la
       ∙ (tail_book b.0 was.config was.replicas a.here.n a.here.node (was.event + 1) (Input.Msg a.hop.msg) a.here.at a.here.up b.1.configs b.1.nodes (known_input b.0 was a.here.n (Input.Msg a.hop.msg) comes b.1) (ap is_tail state_is ∙ a.tail)
       ∙ entries_are)
 
-  node_there : slice_get now.replicas a.here.n ≡ Some after
+  pub node_there : slice_get now.replicas a.here.n ≡ Some after
   node_there = ap (λ l. slice_get l a.here.n) replicas_are ∙ get-set_same was.replicas a.here.n a.here.node after a.here.at
 
   fits : NodeFits r.app.cell_count after
