@@ -126,3 +126,8 @@ pub mod SwitchSizes
 pub mod StraightStart
 pub mod StraightWaits
 pub mod StoreSizes
+pub mod StraightHops
+pub mod StraightTail
+pub mod StraightPuts
+pub mod CopyRoom
+pub mod StraightAsks

@@ -45,7 +45,7 @@ owner_is r switch inc nonce h =
     let t = and_parts _ _ h in let u = and_parts _ _ t.1 in (eqb-true r.switch switch t.0, eqb-true r.inc inc u.0, eqb-true r.nonce nonce u.1)
 
 -- the flow of a record that stands
-record_flow : (s : Replica) (book : List Booked) (key : Key) (r : Record) → Stands s book → record_at s key ≡ Some r → flow_of s.cell_count key (entries_of book) ≡ Some (flow_in r)
+pub record_flow : (s : Replica) (book : List Booked) (key : Key) (r : Record) → Stands s book → record_at s key ≡ Some r → flow_of s.cell_count key (entries_of book) ≡ Some (flow_in r)
 record_flow s book key r st at = sym (stands_flow s book key st) ∙ ap (λ o. option_map flow_in o) at
 
 acked_reply : (s : Replica) (book : List Booked) (key : Key) (r : Record) (switch epoch number : ℕ) → Stands s book → FitsFrom s.cell_count key None (entries_of book) → record_at s key ≡ Some r → covers r switch epoch number ≡ true →

@@ -326,7 +326,7 @@ pub stopped_grows : (confs : List Config) (w : World) (n : ℕ) → Fits w (Stop
 stopped_grows confs w n fits h = (stopped_later confs w.replicas w.config n h.configs h.nodes (some_left w n fits)).committed
 
 -- what is committed stays at the front
-committed_kept : (app : Application) (front : List Entry) → KeepsGiven app BooksHold (λ w. IsPrefix front (committed_of w.replicas))
+pub committed_kept : (app : Application) (front : List Entry) → KeepsGiven app BooksHold (λ w. IsPrefix front (committed_of w.replicas))
 committed_kept app front =
     record {
       counts = λ w b h. h;

@@ -13,4 +13,5 @@ pub mod legal;
 pub mod marks;
 pub mod replies;
 pub mod requests;
+pub mod straight;
 pub mod worked_rows;

@@ -1,0 +1,5 @@
+use Rattle.proto_safety.proofs.StraightAsks as asks
+use Rattle.proto_safety.proofs.straight.asks_are_answered.Goals as goal
+
+pub returns : goal.returns
+returns c = asks.asks_answered

@@ -1,0 +1,5 @@
+use Rattle.proto_safety.proofs.StraightPuts as puts
+use Rattle.proto_safety.proofs.straight.puts_release.Goals as goal
+
+pub returns : goal.returns
+returns c = puts.puts_release
