@@ -120,3 +120,6 @@ pub mod SizesOf
 pub mod AlarmSizes
 pub mod SwitchSizes
 pub mod StoreSizes
+pub mod NodeSizes
+pub mod WorldSizes
+pub mod EventCounts

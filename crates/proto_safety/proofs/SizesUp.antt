@@ -1,5 +1,5 @@
 -- What is sized by a number is sized by a greater one.
-use Rattle.std.proofs.Common.{ℕ, ◌≤◌, List, [], ◌∷◌, Option, Some, None, arith}
+use Rattle.std.proofs.Common.{ℕ, ◌≤◌, List, Option, Some, None, arith}
 use Rattle.proto_data.specs.declared.message.Msg.{Msg}
 use Rattle.proto_data.specs.declared.message.Body.{Body}
 use Rattle.proto_data.specs.declared.message.Entry.{Entry}
@@ -7,14 +7,11 @@ use Rattle.proto_data.specs.declared.message.Echoed.{Echoed}
 use Rattle.proto_data.specs.declared.message.Record.{Record}
 use Rattle.proto_data.specs.declared.message.Carried.{Carried}
 use Rattle.proto_data.specs.declared.message.Config.{Config}
-use Rattle.proto_data.specs.declared.message.Input.{Input}
 use Rattle.proto_data.specs.declared.terms.Terms.{Terms}
-use Rattle.proto_model.specs.Feeds.{Each}
-use Rattle.proto_model.specs.Table.{Key, Table}
+use Rattle.proto_model.specs.Table.{Key}
 use Rattle.proto_model.specs.Slot.{Slot, Lease, Round, Idle, Asking, Held, Lapsed}
 use Rattle.proto_model.specs.SwitchState.{Switch, Copy}
 use Rattle.proto_model.specs.ReplicaState.{Replica}
-use Rattle.proto_model.specs.World.{SwitchNode, ReplicaNode}
 use Rattle.proto_safety.specs.Sizes.{LoadSized, MarkSized, EntrySized, EchoedSized, ConfigSized, BodySized, MsgSized, LeaseSized, RoundSized, SlotSized, CopySized, SwitchSized, RecordSized, ReplicaSized}
 use Rattle.proto_safety.proofs.Lists.{each_weaker}
 

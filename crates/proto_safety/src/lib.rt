@@ -11,4 +11,5 @@ pub mod legal;
 pub mod marks;
 pub mod replies;
 pub mod requests;
+pub mod sizes;
 pub mod worked_rows;
