@@ -9,6 +9,7 @@ use Rattle.rp_base.specs.declared.node.Node.{Node}
 use Rattle.rp_base.specs.declared.event.Event.{Event}
 use Rattle.proto_data.specs.declared.message.Msg.{Msg}
 use Rattle.proto_data.specs.declared.message.Input.{Input}
+use Rattle.proto_data.specs.declared.terms.Mode.{Mode}
 use Rattle.proto_data.specs.MessageFits.{message_fits}
 use Rattle.rp_app.specs.Application.{Application, IsApplication}
 use Rattle.proto_model.specs.Effects.{switch_moved, replica_moved, packet_fed, master_sent}
@@ -26,7 +27,7 @@ use Rattle.proto_safety.proofs.Chains.{each_in, without, stays_in, rising_withou
 use Rattle.proto_safety.proofs.LastBook.{Found, find_last}
 use Rattle.proto_safety.proofs.Lists.{each_append, each_at, each_set, each_changed, each_filter, each_weaker, length_map, length_changed_at, map-set_same}
 use Rattle.proto_safety.proofs.SwitchSays.{each_made}
-use Rattle.proto_safety.proofs.SizesUp.{msg_up, config_up, switch_up, replica_up}
+use Rattle.proto_safety.proofs.SizesUp.{msg_wider, msg_up, config_up, switch_up, replica_up}
 use Rattle.proto_safety.proofs.SizesFit.{msg_fits}
 use Rattle.proto_safety.proofs.SwitchSizes.{InputSized, switch_sized}
 use Rattle.proto_safety.proofs.StoreSizes.{message_sized, alarm_sized}
@@ -334,3 +335,17 @@ pub run_fits : (app : Application) → IsApplication app → app.cell_count ≤ 
 run_fits app is few setup switches some replicas es k small =
     sized_fits app (world_after app (opened app.cell_count setup) es) (omega (arith, events_count app (opened app.cell_count setup) es))
     (events_sized app is few (opened app.cell_count setup) es k (opened_sized app setup switches some replicas))
+
+-- ---- how short frames are
+
+room_short : (m : Mode) (cells : ℕ) → (m ≡ Mode.Strict → cells ≤ 32) → delta_room m cells ≤ 32
+room_short Mode.Strict cells h = h refl
+room_short (Mode.Snapshot bound) cells h = omega arith
+
+pub sized_short : (app : Application) (w : World) → w.event ≤ 4000000000 → (w.terms.mode ≡ Mode.Strict → app.cell_count ≤ 32) → Sized app w → Each (MsgSized 4000000001 32) w.frames
+sized_short app w small short h =
+    each_weaker _ _ w.frames
+    (λ m k.
+    msg_wider 4000000001 (delta_room w.terms.mode app.cell_count) 32 (room_short w.terms.mode app.cell_count short) m
+    (msg_up (w.event + 1) 4000000001 (omega arith) (delta_room w.terms.mode app.cell_count) m k))
+    h.frames
