@@ -123,3 +123,4 @@ pub mod StoreSizes
 pub mod NodeSizes
 pub mod WorldSizes
 pub mod EventCounts
+pub mod NodesSay

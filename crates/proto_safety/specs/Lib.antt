@@ -16,3 +16,4 @@ pub mod Sizes
 pub mod Changes
 pub mod SwitchTable
 pub mod StoreTable
+pub mod StoreSent
