@@ -12,7 +12,7 @@ use Rattle.rp_base.specs.declared.event.Refusal.{Refusal}
 use Rattle.rp_app.specs.Application.{Application, zeros}
 use Rattle.proto_model.specs.Routing.{picked}
 use Rattle.proto_model.specs.World.{World, believed_switches, running_replicas}
-use Rattle.proto_model.specs.WorldStep.{Act, Refuses, Feeds, Delivers, Passes, Advances, Alarms, Stops, Boots, Detects, Announces, Pumps, act_of, refuses_if, feed_at, feed_picked, packet_at, deliver_act, next_act, numbered_frame, next_from, is_next, runs_now, believed_up, frames_full, rates_hold, padded, is_replica}
+use Rattle.proto_model.specs.WorldStep.{Act, Feeds, Delivers, Passes, Advances, Alarms, Stops, Boots, Detects, Announces, Pumps, act_of, refuses_if, feed_at, feed_picked, packet_at, deliver_act, next_act, numbered_frame, next_from, is_next, runs_now, believed_up, frames_full, rates_hold, padded, is_replica}
 
 -- an act behind a test: the test failed
 passed_test : (w : World) (b : Bool) (cause : Refusal) (act : Act) → (b ≡ false → Fits w act) → Fits w (refuses_if b cause act)

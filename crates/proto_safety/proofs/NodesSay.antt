@@ -1,5 +1,5 @@
 -- What a node of a run sends says what the node is after its step.
-use Rattle.std.proofs.Common.{◌≡◌, ℕ, List, [], ◌∷◌, ◌++◌, Option, Some, None, refl, sym, ap, subst, ◌∙◌, slice_get, append-nil}
+use Rattle.std.proofs.Common.{◌≡◌, ℕ, List, [], ◌∷◌, Option, Some, None, sym, ap, subst, slice_get, append-nil}
 use Rattle.rp_base.specs.declared.event.Event.{Event}
 use Rattle.proto_data.specs.declared.message.Msg.{Msg}
 use Rattle.proto_data.specs.declared.message.Entry.{Entry}
@@ -8,7 +8,7 @@ use Rattle.rp_app.specs.Application.{Application}
 use Rattle.proto_model.specs.Feeds.{Each}
 use Rattle.proto_model.specs.Records.{Booked}
 use Rattle.proto_model.specs.ReplicaState.{Replica, StoreStep}
-use Rattle.proto_model.specs.ReplicaRows.{store_row, store_step}
+use Rattle.proto_model.specs.ReplicaRows.{store_step}
 use Rattle.proto_model.specs.Stands.{Stands, entries_of}
 use Rattle.proto_model.specs.Table.{Key}
 use Rattle.proto_model.specs.SwitchRows.{switch_step}

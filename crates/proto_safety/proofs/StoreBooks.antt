@@ -1,6 +1,6 @@
 -- What a replica's step does to its configuration, its book, its known commit and what it sends.
 pub use Rattle.proto_safety.specs.StoreSent.{SentBooks}
-use Rattle.std.proofs.Common.{◌≡◌, ℕ, ◌+◌, ◌-◌, ◌≤◌, ◌<◌, List, [], ◌∷◌, ◌++◌, length, Option, Some, None, arith, refl, sym, ap, ◌∙◌, subst, eqb-true, append-nil, take, drop, true, false, Bool, append_assoc, length-append, length-take, nat_le}
+use Rattle.std.proofs.Common.{◌≡◌, ℕ, ◌+◌, ◌-◌, ◌<◌, List, [], ◌∷◌, ◌++◌, length, Option, Some, None, arith, refl, sym, ap, ◌∙◌, subst, eqb-true, append-nil, take, drop, true, false, Bool, append_assoc, length-append, length-take, nat_le}
 use Rattle.std.proofs.lemmas.List.{take-append-drop}
 use Rattle.std.specs.Prelude.{nat_lt}
 use Rattle.proto_data.specs.declared.message.Msg.{Msg}
@@ -17,7 +17,7 @@ use Rattle.proto_model.specs.Records.{Booked}
 use Rattle.proto_model.specs.ReplicaState.{Replica, StoreStep, is_tail, is_head, is_member, to_replica, successor_of, predecessor_of, last_of, record_at}
 use Rattle.proto_model.specs.ReplicaRows.{StoreRow, Loses, Answers, Echoes, Appends, Gathers, AppendsSnap, Commits, Adopts, Resends, store_perform, store_step, appended_as, configured_as, owner_answer, forwards, with_entry, entry_key}
 use Rattle.proto_model.specs.Stands.{Stands, entries_of}
-use Rattle.proto_safety.specs.Books.{EntryAt, ToReplica}
+use Rattle.proto_safety.specs.Books.{EntryAt}
 use Rattle.proto_safety.proofs.Lists.{each_append, each_if}
 use Rattle.proto_safety.proofs.Places.{entry_pushed}
 use Rattle.proto_safety.proofs.StoreStands.{book_after, entries_of-push, length-entries_of}

@@ -17,7 +17,7 @@ use Rattle.proto_model.specs.ReplicaState.{Replica, StoreStep, record_at, is_tai
 use Rattle.proto_model.specs.ReplicaRows.{StoreRow, Loses, Answers, Echoes, Appends, Gathers, AppendsSnap, Commits, Adopts, Resends, store_perform, store_row, store_step, appended_as, configured_as, owner_answer, forwards, with_entry, entry_key}
 use Rattle.proto_model.specs.Stands.{entries_of, Stands}
 use Rattle.proto_safety.specs.Books.{In}
-use Rattle.proto_safety.specs.Flows.{flow_in, flow_of, FitsFrom, GrantedNow, AckedIn, ToSwitch}
+use Rattle.proto_safety.specs.Flows.{flow_in, flow_of, FitsFrom, GrantedNow, AckedIn}
 use Rattle.proto_safety.proofs.StoreTable.{Taken, busied, denied, denied_snap, granted_again, acked_again, had, is_owner, covers, message_taken}
 use Rattle.proto_safety.proofs.StoreStands.{book_after, StepStands, step_stands, entries_of-push}
 use Rattle.proto_safety.proofs.FlowBooks.{stands_flow, in_last, last_numbered, numbered_put, numbered_snap}

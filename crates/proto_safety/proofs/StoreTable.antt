@@ -1,21 +1,18 @@
 -- The table of a replica's rows is sound: the row of each message is one of the table's.
 pub use Rattle.proto_safety.specs.StoreTable.{is_owner, covers, Asked, WasPut, IsGathered, Taken, itself, echo, itself_put, itself_snap, echo_put, lost, first_grant, own_grant, other_grant, busied, echoed_ask, denied, denied_snap, next_put, echoed_put, echoed_snap, gathered, next_snap, granted_again, acked_again, had, forwarded, committed, adopted}
-use Rattle.std.proofs.Common.{◌≡◌, ℕ, ◌+◌, ◌-◌, ◌≤◌, ◌<◌, List, Option, Some, None, refl, true, false, Bool}
+use Rattle.std.proofs.Common.{◌≡◌, ℕ, ◌+◌, List, Option, Some, None, refl, true, false, Bool}
 use Rattle.std.specs.Prelude.{◌==◌, ◌&&◌, nat_le, nat_lt, if◌then◌else◌}
 use Rattle.std.proofs.lemmas.Bool.{and_parts, ltb-true, leb-true}
 use Rattle.rp_base.specs.declared.node.Node.{Node}
 use Rattle.proto_data.specs.declared.message.Body.{Body}
-use Rattle.proto_data.specs.declared.message.Entry.{Entry}
 use Rattle.proto_data.specs.declared.message.Echoed.{Echoed}
 use Rattle.proto_data.specs.declared.message.Record.{Record}
 use Rattle.proto_data.specs.declared.message.Carried.{Carried}
-use Rattle.proto_data.specs.declared.message.Config.{Config}
-use Rattle.rp_base.specs.declared.event.Lost.{Lost}
 use Rattle.rp_app.specs.Application.{Delta}
 use Rattle.proto_model.specs.Table.{Key, get}
-use Rattle.proto_model.specs.Records.{entry_fits, delta_within}
+use Rattle.proto_model.specs.Records.{delta_within}
 use Rattle.proto_model.specs.ReplicaState.{Replica, record_at, is_head, is_tail, Gathered, whole_cells, gathering_of, with_part}
-use Rattle.proto_model.specs.ReplicaRows.{StoreRow, Loses, Answers, Echoes, Appends, Gathers, AppendsSnap, Commits, Adopts, store_message_row, ask_row, put_row, snap_row, gathered_row, echo_row, echoed_row, covered, at_head, switch_of, is_later, chunk_fits, carried_mark}
+use Rattle.proto_model.specs.ReplicaRows.{StoreRow, store_message_row, ask_row, put_row, snap_row, gathered_row, echo_row, echoed_row, covered, at_head, switch_of, chunk_fits}
 
 if_taken : {s : Replica} {now : ℕ} {from : Node} {body : Body} {b : Bool} {x y : StoreRow} → (b ≡ true → Taken s now from body x) → (b ≡ false → Taken s now from body y) →
     Taken s now from body (if b then x else y)

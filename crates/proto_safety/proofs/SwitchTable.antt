@@ -1,6 +1,6 @@
 -- The table of a switch's rows is sound: the row of each input is one of the table's.
 pub use Rattle.proto_safety.specs.SwitchTable.{msg, Timely, Ready, Acts, fed, at_grant, at_grant_again, stale, keyless, no_room, first_ask, ask_idle, ask_anew, ask_lapsed, ask_again, no_copy_room, direct, mirrored, snapped, too_old, granted_only, late, acked, round_done, denied, busied, adopted, resends}
-use Rattle.std.proofs.Common.{◌≡◌, ℕ, ◌+◌, ◌<◌, List, length, Option, Some, None, refl, true, false, Bool}
+use Rattle.std.proofs.Common.{◌≡◌, ℕ, ◌+◌, List, length, Option, Some, None, refl, true, false, Bool}
 use Rattle.std.specs.Prelude.{◌==◌, ◌&&◌, not, nat_le, nat_lt, if◌then◌else◌}
 use Rattle.std.proofs.lemmas.Bool.{and_parts, ltb-true, not-true}
 use Rattle.std.proofs.Common.{eqb-true}
@@ -8,18 +8,16 @@ use Rattle.rp_base.specs.declared.node.Node.{Node}
 use Rattle.proto_data.specs.declared.message.Body.{Body}
 use Rattle.proto_data.specs.declared.terms.Mode.{Mode}
 use Rattle.proto_data.specs.declared.message.Input.{Input}
-use Rattle.proto_data.specs.declared.message.Config.{Config}
 use Rattle.rp_base.specs.declared.node.Packet.{Packet}
 use Rattle.rp_base.specs.declared.node.Output.{Output}
 use Rattle.proto_data.specs.declared.message.Carried.{Carried}
-use Rattle.rp_base.specs.declared.event.DropCause.{DropCause}
-use Rattle.rp_app.specs.Application.{Application, Delta, zeros}
+use Rattle.rp_app.specs.Application.{Application, Delta}
 use Rattle.proto_model.specs.Carrying.{packet_of}
 use Rattle.proto_model.specs.Table.{Key}
 use Rattle.proto_model.specs.Ring.{remembers}
-use Rattle.proto_model.specs.Slot.{Slot, Lease, Round, Idle, Asking, Held, Lapsed, fresh_slot, is_young, may, updated}
+use Rattle.proto_model.specs.Slot.{Slot, Lease, Round, Idle, Asking, Held, Lapsed, is_young, may}
 use Rattle.proto_model.specs.SwitchState.{Switch, slot_at, has_copies}
-use Rattle.proto_model.specs.SwitchRow.{SwitchRow, Keyless, NoRoom, NewAsk, AskAgain, Drops, Direct, Mirrored, Granted, Late, Acked, RoundDone, Denied, Busied, Adopts, Resends, Stale, switch_row, packet_row, keyed_row, leased_row, message_row, grant_row, carried_row, busy_row, ack_row, round_row, at_slot, processed, process_row, granted, without_asked, asked_mark, has_epoch, is_clean}
+use Rattle.proto_model.specs.SwitchRow.{SwitchRow, Granted, Stale, switch_row, packet_row, keyed_row, leased_row, message_row, grant_row, carried_row, busy_row, ack_row, round_row, at_slot, processed, process_row, granted, without_asked, has_epoch, is_clean}
 
 module _ (app : Application) (s : Switch) (now : ℕ) where
   if_acts : {input : Input} {x y : SwitchRow} (b : Bool) → (b ≡ true → Acts app s now input x) → (b ≡ false → Acts app s now input y) → Acts app s now input (if b then x else y)

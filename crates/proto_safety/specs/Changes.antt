@@ -1,5 +1,5 @@
 -- The ways in which a world changes: what an act may rely on, and which facts each of the ways keeps.
-use Rattle.std.specs.Prelude.{ℕ, ◌+◌, ◌≡◌, List, Some, Bool, true, false, not, ◌&&◌, length, nat_le, slice_get}
+use Rattle.std.specs.Prelude.{ℕ, ◌+◌, ◌≡◌, List, Some, true, false, not, ◌&&◌, length, nat_le, slice_get}
 use Rattle.rp_base.specs.declared.node.Node.{Node}
 use Rattle.rp_base.specs.declared.node.Packet.{Packet}
 use Rattle.proto_data.specs.declared.message.Input.{Input}

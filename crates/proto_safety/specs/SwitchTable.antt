@@ -1,5 +1,5 @@
 -- The table of a switch's rows: for each input and each case the row that is taken, with all that is known there.
-use Rattle.std.specs.Prelude.{ℕ, ◌+◌, ◌≡◌, ◌<◌, List, length, Option, Some, None, true, false, Bool, ◌==◌, ◌&&◌, not, nat_le, if◌then◌else◌}
+use Rattle.std.specs.Prelude.{ℕ, ◌+◌, ◌≡◌, ◌<◌, List, length, Option, Some, None, true, false, ◌==◌, ◌&&◌, not, nat_le, if◌then◌else◌}
 use Rattle.rp_base.specs.declared.node.Node.{Node}
 use Rattle.proto_data.specs.declared.message.Body.{Body}
 use Rattle.proto_data.specs.declared.terms.Mode.{Mode}
