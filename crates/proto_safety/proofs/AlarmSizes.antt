@@ -1,28 +1,25 @@
 -- An Alarm of a switch raises the last number of a slot by one at most, and sends sized messages.
-use Rattle.std.proofs.Common.{◌≡◌, ◌⊎◌, ℕ, ◌+◌, ◌≤◌, ◌<◌, ◌*◌, List, [], ◌∷◌, ◌++◌, length, map, take, drop, Option, Some, None, arith, refl, true, false, Bool, subst, inl, inr, ap, length-take}
+use Rattle.std.proofs.Common.{◌≡◌, ◌⊎◌, ℕ, ◌+◌, ◌≤◌, ◌<◌, List, [], ◌∷◌, ◌++◌, length, map, Option, Some, None, arith, refl, true, false, Bool, subst, inl, inr}
 use Rattle.std.specs.Prelude.{◌/◌, is_some, nat_lt, if◌then◌else◌, unwrap_or, option_and_then, ◌&&◌, ◌||◌}
 use Rattle.std.specs.List.{list_any}
 use Rattle.std.proofs.lemmas.Bool.{both_ways, ltb-true, lt-ltb, and_from}
 use Rattle.proto_data.specs.declared.message.Msg.{Msg}
 use Rattle.proto_data.specs.declared.message.Body.{Body}
-use Rattle.proto_data.specs.declared.message.Config.{Config}
 use Rattle.rp_base.specs.declared.node.Node.{Node}
 use Rattle.proto_data.specs.declared.terms.Mode.{Mode}
 use Rattle.proto_data.specs.declared.terms.Terms.{Terms}
-use Rattle.proto_data.specs.MessageFits.{is_store, is_switch, nodes_fit}
+use Rattle.proto_data.specs.MessageFits.{is_store, is_switch}
 use Rattle.proto_model.specs.Feeds.{Each}
-use Rattle.proto_model.specs.Table.{Key, Table, get}
+use Rattle.proto_model.specs.Table.{Key, Table}
 use Rattle.proto_model.specs.Slot.{Slot, Lease, Round, Idle, Asking, Held, Lapsed, epoch_of, is_young, chunk_count, chunk_of}
 use Rattle.proto_model.specs.SwitchState.{Switch, Copy, slot_at, is_of, has_copies, head_node}
-use Rattle.proto_model.specs.SwitchAlarm.{Walk, alarm, due_copies, other_copies, epoch_at, resent_put, repeated_ask, repeated_asks, walk_order}
-use Rattle.proto_safety.specs.Books.{In}
+use Rattle.proto_model.specs.SwitchAlarm.{Walk, alarm, due_copies, other_copies, resent_put, repeated_ask, repeated_asks, walk_order}
 use Rattle.proto_safety.specs.Sizes.{KeySized, MsgSized, ConfigSized, LeaseSized, RoundSized, SlotSized, CopySized, SwitchSized, delta_room}
-use Rattle.proto_safety.proofs.Lists.{each_append, each_if, each_take, each_weaker, each_map, length_take_le}
+use Rattle.proto_safety.proofs.Lists.{each_append, each_if, each_take, each_weaker, length_take_le}
 use Rattle.proto_safety.proofs.SizesUp.{slot_up, copy_up, config_up}
 use Rattle.proto_safety.proofs.SizesOf.{each_of, each_put, each_get, head_is, no_delta, chunk_some, chunk_few}
 use Rattle.proto_safety.proofs.Tables.{same_key-refl}
 use Rattle.proto_safety.proofs.AlarmInduction.{WalkKeeps, walk_kept, round_slot, new_round}
-use Rattle.proto_safety.proofs.FlowMoves.{chunk_slot}
 use Rattle.proto_safety.proofs.FlowAlarm.{in_due, in_other}
 use Rattle.proto_safety.proofs.Chains.{each_in}
 use Rattle.proto_safety.proofs.SwitchSays.{each_made}

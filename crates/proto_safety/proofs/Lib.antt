@@ -131,3 +131,7 @@ pub mod StraightTail
 pub mod StraightPuts
 pub mod CopyRoom
 pub mod StraightAsks
+pub mod NodeSizes
+pub mod WorldSizes
+pub mod EventCounts
+pub mod NodesSay

@@ -1,4 +1,5 @@
 -- A replica answers a switch as the tail of its configuration alone, with what its own book says.
+pub use Rattle.proto_safety.specs.StoreSent.{SentReply}
 use Rattle.std.proofs.Common.{◌≡◌, ℕ, ◌-◌, drop, ◌+◌, List, [], ◌∷◌, ◌++◌, length, Option, Some, None, arith, refl, sym, ap, ◌∙◌, take, true, false, Bool, append-nil, nat_le, eqb-true}
 use Rattle.std.specs.Prelude.{nat_lt, option_map}
 use Rattle.std.proofs.lemmas.Bool.{and_parts}
@@ -16,18 +17,12 @@ use Rattle.proto_model.specs.ReplicaState.{Replica, StoreStep, record_at, is_tai
 use Rattle.proto_model.specs.ReplicaRows.{StoreRow, Loses, Answers, Echoes, Appends, Gathers, AppendsSnap, Commits, Adopts, Resends, store_perform, store_row, store_step, appended_as, configured_as, owner_answer, forwards, with_entry, entry_key}
 use Rattle.proto_model.specs.Stands.{entries_of, Stands}
 use Rattle.proto_safety.specs.Books.{In}
-use Rattle.proto_safety.specs.Flows.{flow_in, flow_of, FitsFrom, GrantedNow, AckedIn, ToSwitch}
+use Rattle.proto_safety.specs.Flows.{flow_in, flow_of, FitsFrom, GrantedNow, AckedIn}
 use Rattle.proto_safety.proofs.StoreTable.{Taken, busied, denied, denied_snap, granted_again, acked_again, had, is_owner, covers, message_taken}
 use Rattle.proto_safety.proofs.StoreStands.{book_after, StepStands, step_stands, entries_of-push}
 use Rattle.proto_safety.proofs.FlowBooks.{stands_flow, in_last, last_numbered, numbered_put, numbered_snap}
 use Rattle.proto_safety.proofs.Tables.{get-put_same, same_some, same_key-refl}
 use Rattle.proto_safety.proofs.Lists.{each_append, each_if}
-
--- an answer to a switch comes of the tail, and says what this book says
-abbrev pub SentReply : Replica → List Entry → Node → Body → Type 0
-SentReply r es to (Body.Grant inc nonce epoch key cells load) = (is_tail r ≡ true) × ToSwitch (λ s. GrantedNow r.cell_count es s inc nonce epoch key cells) to
-SentReply r es to (Body.Ack inc epoch upto key load) = (is_tail r ≡ true) × AckedIn es epoch upto key
-SentReply r es to _ = Unit {0}
 
 abbrev pub Replies : Replica → List Entry → List Msg → Type 0
 Replies r es ms = Each (λ (m : Msg). SentReply r es m.to m.body) ms

@@ -1,5 +1,5 @@
 -- A step of a replica raises each number by one at most, and sends sized messages.
-use Rattle.std.proofs.Common.{◌≡◌, ℕ, ◌+◌, ◌-◌, ◌*◌, ◌≤◌, ◌<◌, List, [], ◌∷◌, ◌++◌, length, map, take, drop, set, replicate, Option, Some, None, arith, refl, true, false, Bool, subst, ap, sym, ◌∙◌, zero, suc, length-append, length-take, length-set, nat_le, nat_lt}
+use Rattle.std.proofs.Common.{◌≡◌, ℕ, ◌+◌, ◌-◌, ◌*◌, ◌≤◌, ◌<◌, List, [], ◌∷◌, length, map, take, drop, replicate, Option, Some, None, arith, refl, true, false, Bool, subst, ap, sym, zero, suc, length-append, length-take, length-set, nat_le, nat_lt}
 use Rattle.std.specs.Prelude.{◌==◌, ◌&&◌, if◌then◌else◌, is_some}
 use Rattle.std.specs.List.{list_all, concat}
 use Rattle.std.proofs.lemmas.Bool.{and_parts, and_from, lt-ltb, ltb-true, both_ways, false≢true}
@@ -14,15 +14,14 @@ use Rattle.proto_data.specs.declared.message.Carried.{Carried}
 use Rattle.proto_data.specs.declared.message.Config.{Config}
 use Rattle.proto_data.specs.MessageFits.{is_store, is_switch, nodes_fit}
 use Rattle.rp_base.specs.declared.node.Node.{Node}
-use Rattle.rp_app.specs.Application.{Delta, written, zeros}
 use Rattle.proto_model.specs.Feeds.{Each}
-use Rattle.proto_model.specs.Table.{Key, Table, get, put}
+use Rattle.proto_model.specs.Table.{Key, get, put}
 use Rattle.proto_model.specs.Records.{Records, applied, cells_of, put_applied, snap_applied}
 use Rattle.proto_model.specs.ReplicaState.{Replica, StoreStep, Gathered, record_at, is_member, is_tail, to_node, to_replica, successor_of, predecessor_of, last_of, no_parts, gathering_of, with_part, part_cells, whole_cells}
-use Rattle.proto_model.specs.ReplicaRows.{StoreRow, Loses, Answers, Echoes, Appends, Gathers, AppendsSnap, Commits, Adopts, Resends, store_row, store_perform, store_step, appended_as, configured_as, owner_answer, forwards, with_entry, entry_key, switch_of, carried_mark}
-use Rattle.proto_safety.specs.Sizes.{KeySized, LoadSized, MarkSized, EntrySized, EchoedSized, BodySized, MsgSized, ConfigSized, RecordSized, GatheredSized, ReplicaSized}
-use Rattle.proto_safety.proofs.Lists.{each_append, each_if, each_take, each_set, each_at, length_take_le}
-use Rattle.proto_safety.proofs.SizesUp.{entry_up, config_up, record_up, replica_up}
+use Rattle.proto_model.specs.ReplicaRows.{StoreRow, Appends, Resends, store_row, store_perform, store_step, appended_as, configured_as, owner_answer, forwards, with_entry, entry_key, switch_of, carried_mark}
+use Rattle.proto_safety.specs.Sizes.{LoadSized, MarkSized, EntrySized, EchoedSized, BodySized, MsgSized, ConfigSized, RecordSized, GatheredSized, ReplicaSized}
+use Rattle.proto_safety.proofs.Lists.{each_append, each_if, each_take, each_set}
+use Rattle.proto_safety.proofs.SizesUp.{replica_up}
 use Rattle.proto_safety.proofs.SizesOf.{each_put, each_get, last_is, successor_is, predecessor_is}
 use Rattle.proto_safety.proofs.FlowCellCount.{length-written}
 use Rattle.proto_safety.proofs.StoreTable.{Taken, Asked, WasPut, IsGathered, itself, echo, itself_put, itself_snap, echo_put, lost, first_grant, own_grant, other_grant, busied, echoed_ask, denied, denied_snap, next_put, echoed_put, echoed_snap, gathered, next_snap, granted_again, acked_again, had, forwarded, committed, adopted, message_taken}
@@ -193,8 +192,8 @@ module _ (cells : ℕ) (few : cells ≤ 256) (n d now : ℕ) where
           gathered = h.gathered;
         },
         each_append Fits (owner_answer (with_entry s e now) e load (record_at (with_entry s e now) (entry_key e))) _
-        (answer_sized (with_entry s e now) e load (record_at (with_entry s e now) (entry_key e)) h.me es l (λ r found. each_get (λ k v. RecordSized (n + 1) k v) (applied s.cell_count s.records e now) (entry_key e) r found records))
-        (have_sized (with_entry s e now) (s.applied + 1) h.me h.config.replicas (omega (arith, h.applied))),
+            (answer_sized (with_entry s e now) e load (record_at (with_entry s e now) (entry_key e)) h.me es l (λ r found. each_get (λ k v. RecordSized (n + 1) k v) (applied s.cell_count s.records e now) (entry_key e) r found records))
+            (have_sized (with_entry s e now) (s.applied + 1) h.me h.config.replicas (omega (arith, h.applied))),
       )
   appended_sized true false true s e load at h es l = (kept s h, tt)
   appended_sized true false false s e load at h es l =

@@ -1,29 +1,24 @@
 -- A step of a switch raises each number by one at most, and sends sized messages.
-use Rattle.std.proofs.Common.{◌≡◌, ℕ, ◌+◌, ◌≤◌, ◌<◌, List, [], ◌∷◌, length, Option, Some, None, arith, refl, true, false, Bool, subst, ap, sym, ◌∙◌, eqb-true, filter}
-use Rattle.std.specs.Prelude.{not, ◌==◌, nat_lt, nat_le, option_map, if◌then◌else◌}
-use Rattle.std.specs.List.{All}
+use Rattle.std.proofs.Common.{◌≡◌, ℕ, ◌+◌, ◌≤◌, List, [], ◌∷◌, length, Option, Some, None, arith, true, false, Bool, subst, ap, sym, ◌∙◌, eqb-true, filter}
+use Rattle.std.specs.Prelude.{not, nat_lt, nat_le, option_map, if◌then◌else◌}
 use Rattle.proto_data.specs.declared.message.Msg.{Msg}
-use Rattle.proto_data.specs.declared.message.Body.{Body}
 use Rattle.proto_data.specs.declared.message.Input.{Input}
-use Rattle.proto_data.specs.declared.message.Carried.{Carried}
-use Rattle.proto_data.specs.declared.message.Config.{Config}
-use Rattle.rp_base.specs.declared.node.Node.{Node}
 use Rattle.rp_base.specs.declared.node.Packet.{Packet}
 use Rattle.rp_base.specs.declared.node.Output.{Output}
 use Rattle.proto_data.specs.declared.terms.Mode.{Mode}
 use Rattle.proto_data.specs.declared.terms.Terms.{Terms}
-use Rattle.rp_app.specs.Application.{Application, IsApplication, IsOutputOf, Delta, cells_named, written}
+use Rattle.rp_app.specs.Application.{Application, IsApplication, IsOutputOf, Delta, written}
 use Rattle.proto_model.specs.Carrying.{carried_packet, carried_output}
 use Rattle.proto_model.specs.Feeds.{Each}
-use Rattle.proto_model.specs.Table.{Key, Table}
-use Rattle.proto_model.specs.Slot.{Slot, Lease, Round, Idle, Asking, Held, Lapsed, fresh_slot, lapsed_slot, lapsed_lease, extended, emptied}
+use Rattle.proto_model.specs.Table.{Key}
+use Rattle.proto_model.specs.Slot.{Slot, Lease, Idle, Asking, Held, Lapsed, fresh_slot, lapsed_slot, lapsed_lease, extended, emptied}
 use Rattle.proto_model.specs.SwitchState.{Switch, SwitchStep, Copy, slot_at, with_slot, lapsed, is_of, is_covered}
-use Rattle.proto_model.specs.SwitchRow.{SwitchRow, NewAsk, AskAgain, Drops, Direct, Mirrored, Granted, Late, Acked, RoundDone, Denied, Busied, Adopts, Resends, switch_row, granted, without_asked}
-use Rattle.proto_model.specs.SwitchActs.{perform, acked_lease, idled, late_did}
+use Rattle.proto_model.specs.SwitchRow.{SwitchRow, NewAsk, AskAgain, Drops, Direct, Mirrored, Granted, Late, Acked, RoundDone, Denied, Busied, Adopts, Resends, switch_row}
+use Rattle.proto_model.specs.SwitchActs.{perform, acked_lease, idled}
 use Rattle.proto_model.specs.SwitchRows.{switch_step}
-use Rattle.proto_safety.specs.Sizes.{KeySized, LoadSized, DeltaSized, MsgSized, BodySized, ConfigSized, LeaseSized, RoundSized, SlotSized, CopySized, SwitchSized, delta_room}
-use Rattle.proto_safety.proofs.Lists.{each_append, each_filter, each_weaker}
-use Rattle.proto_safety.proofs.SizesUp.{slot_up, copy_up, config_up, switch_up}
+use Rattle.proto_safety.specs.Sizes.{LoadSized, DeltaSized, MsgSized, BodySized, LeaseSized, SlotSized, CopySized, SwitchSized, delta_room}
+use Rattle.proto_safety.proofs.Lists.{each_append, each_filter}
+use Rattle.proto_safety.proofs.SizesUp.{slot_up, config_up, switch_up}
 use Rattle.proto_safety.proofs.SizesOf.{each_put, each_get, each_values, delta_few}
 use Rattle.proto_safety.proofs.AlarmSizes.{Sender, to_head_is, leased_epoch, alarm_sized}
 use Rattle.proto_safety.proofs.FlowCellCount.{length-written}
@@ -170,8 +165,8 @@ module _ (app : Application) (is : IsApplication app) (few : app.cell_count ≤ 
   asks_anew : (s : Switch) (key : Key) (slot : Slot) (p : Packet) → SwitchSized n app.cell_count terms s → app.key_of p ≡ Some key → slot.last ≤ n → LoadSized (n + 1) (Some (carried_packet p)) → Result (perform s now (NewAsk key slot p))
   asks_anew s key slot p h of last load = (
     stored s (s.nonces + 1) (filter (λ c. not (is_of key c)) s.copies) key (record (emptied slot (Asking (s.nonces + 1) now)) { asked = Some p.mark ∷ [] }) h (omega (arith, h.nonces))
-    (each_filter _ (λ c. not (is_of key c)) s.copies (kept s h).copies)
-    (record { key_fits = is.keys p key of; lease = omega (arith, h.nonces); last = omega arith; round = tt }),
+        (each_filter _ (λ c. not (is_of key c)) s.copies (kept s h).copies)
+        (record { key_fits = is.keys p key of; lease = omega (arith, h.nonces); last = omega arith; round = tt }),
     ((to_head_is (n + 1) s (sender s h), (omega (arith, h.inc), omega (arith, h.nonces), is.keys p key of, load)), tt),
   )
 
@@ -186,9 +181,9 @@ module _ (app : Application) (is : IsApplication app) (few : app.cell_count ≤ 
       (subst (λ (q : Delta × Option Output). DeltaSized app.cell_count q.0) e (delta_few app.cell_count _ (is.deltas slot.cells p held.1) (is.cells slot.cells p held.1))) in
       let out : IsOutputOf p made.1 = subst (λ (q : Delta × Option Output). IsOutputOf p q.1) e (is.outputs slot.cells p held.1) in (
         stored s s.nonces _ key _ h (omega (arith, h.nonces))
-        (each_append _ s.copies (record { key = key; number = slot.last + 1; delta = made.0; first = now; sent = now } ∷ []) (kept s h).copies
-        (record { key = x.sized.key_fits; number = omega (arith, x.last); delta = d }, tt))
-        (record { key_fits = x.sized.key_fits; lease = written_lease slot.cells made.0 slot.lease x.sized.lease; last = omega (arith, x.last); round = x.sized.round }),
+            (each_append _ s.copies (record { key = key; number = slot.last + 1; delta = made.0; first = now; sent = now } ∷ []) (kept s h).copies
+            (record { key = x.sized.key_fits; number = omega (arith, x.last); delta = d }, tt))
+            (record { key_fits = x.sized.key_fits; lease = written_lease slot.cells made.0 slot.lease x.sized.lease; last = omega (arith, x.last); round = x.sized.round }),
         ((to_head_is (n + 1) s (sender s h), (omega (arith, h.inc), held.0, omega (arith, x.last), x.sized.key_fits, d, output_sized (n + 1) p made.1 x.load out)), tt),
       )
 
@@ -223,7 +218,7 @@ module _ (app : Application) (is : IsApplication app) (few : app.cell_count ≤ 
   row_sized s input (Acked key slot upto load) h i (acked mode here at of) =
       let g = above key slot (was s key slot h at) in (
         stored s s.nonces (filter (λ c. not (is_covered key upto c)) s.copies) key _ h (omega (arith, h.nonces)) (each_filter _ (λ c. not (is_covered key upto c)) s.copies (kept s h).copies)
-        (record { key_fits = g.key_fits; lease = acked_sized (n + 1) app.cell_count s.terms.t_switch now slot.cells slot.lease _ g.lease; last = g.last; round = g.round }),
+            (record { key_fits = g.key_fits; lease = acked_sized (n + 1) app.cell_count s.terms.t_switch now slot.cells slot.lease _ g.lease; last = g.last; round = g.round }),
         tt,
       )
   row_sized s input (RoundDone key slot r) h i (round_done mode here at of o same) =

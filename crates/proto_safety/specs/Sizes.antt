@@ -1,5 +1,5 @@
 -- How large what the nodes of a run keep and send is. Numbers go by the events so far: each event raises each of them by one at most.
-use Rattle.std.specs.Prelude.{ℕ, ◌+◌, ◌≡◌, ◌≤◌, ◌<◌, true, List, [], ◌∷◌, Option, Some, None, length, slice_get}
+use Rattle.std.specs.Prelude.{ℕ, ◌+◌, ◌≡◌, ◌≤◌, ◌<◌, true, List, [], Option, Some, None, length, slice_get}
 use Rattle.proto_data.specs.declared.message.Msg.{Msg}
 use Rattle.proto_data.specs.declared.message.Body.{Body}
 use Rattle.proto_data.specs.declared.message.Entry.{Entry}
@@ -39,10 +39,12 @@ abbrev pub LoadSized : ℕ → Option Carried → Type 0
 LoadSized n None = Unit {0}
 LoadSized n (Some c) = (c.mark ≤ n) × (c.port < 65536) × (length c.bytes ≤ 1500)
 
+-- the mark that a Busy brings back
 abbrev pub MarkSized : ℕ → Option ℕ → Type 0
 MarkSized n None = Unit {0}
 MarkSized n (Some mark) = mark ≤ n
 
+-- a delta names cells by rising number, and at most so many
 abbrev pub DeltaSized : ℕ → Delta → Type 0
 DeltaSized d delta = IsDelta delta × (length delta ≤ d)
 
@@ -51,11 +53,13 @@ abbrev pub delta_room : Mode → ℕ → ℕ
 delta_room Mode.Strict cells = cells
 delta_room (Mode.Snapshot bound) cells = 0
 
+-- an entry of the book
 abbrev pub EntrySized : ℕ → ℕ → Entry → Type 0
 EntrySized n d (Entry.Grant key epoch switch inc nonce) = KeySized key × (epoch ≤ n) × (switch < 8) × (inc ≤ n) × (nonce ≤ n)
 EntrySized n d (Entry.Put key epoch number delta) = KeySized key × (epoch ≤ n) × (number ≤ n) × DeltaSized d delta
 EntrySized n d (Entry.Snap key epoch round cells) = KeySized key × (epoch ≤ n) × (round ≤ n) × (length cells ≤ 256)
 
+-- what an Echo stands for
 abbrev pub EchoedSized : ℕ → Echoed → Type 0
 EchoedSized n (Echoed.Ask switch inc nonce key) = (switch < 8) × (inc ≤ n) × (nonce ≤ n) × KeySized key
 EchoedSized n (Echoed.Put switch epoch number key) = (switch < 8) × (epoch ≤ n) × (number ≤ n) × KeySized key
@@ -68,6 +72,7 @@ pub record ConfigSized (n : ℕ) (c : Config) : Type 0 where
   pub rises : Rising c.chain
   pub replicas : Each (λ r. r < 5) c.chain
 
+-- what a message says, by its kind
 abbrev pub BodySized : ℕ → ℕ → Body → Type 0
 BodySized n d (Body.Ask inc nonce key load) = (inc ≤ n) × (nonce ≤ n) × KeySized key × LoadSized n load
 BodySized n d (Body.Grant inc nonce epoch key cells load) =
@@ -97,21 +102,25 @@ LeaseSized n cells values (Asking nonce first) = nonce ≤ n
 LeaseSized n cells values (Held nonce epoch expiry) = (epoch ≤ n) × (length values ≡ cells)
 LeaseSized n cells values (Lapsed nonce epoch expiry) = (epoch ≤ n) × (length values ≡ cells)
 
+-- a running round, whose next chunk is one of its chunks
 abbrev pub RoundSized : ℕ → Option Round → Type 0
 RoundSized n None = Unit {0}
 RoundSized n (Some r) = (r.number ≤ n) × (length r.cells ≤ 256) × (r.chunk < chunk_count (length r.cells))
 
+-- a slot of this flow
 pub record SlotSized (n cells : ℕ) (key : Key) (slot : Slot) : Type 0 where
   pub key_fits : KeySized key
   pub lease : LeaseSized n cells slot.cells slot.lease
   pub last : slot.last ≤ n
   pub round : RoundSized n slot.round
 
+-- a copy that waits for its Ack
 pub record CopySized (n d : ℕ) (c : Copy) : Type 0 where
   pub key : KeySized c.key
   pub number : c.number ≤ n
   pub delta : DeltaSized d c.delta
 
+-- a switch with these terms; its nonces, incarnation and the numbers of its slots and copies are at most n
 pub record SwitchSized (n cells : ℕ) (terms : Terms) (s : Switch) : Type 0 where
   pub me : s.me < 8
   pub terms_are : s.terms ≡ terms
@@ -123,6 +132,7 @@ pub record SwitchSized (n cells : ℕ) (terms : Terms) (s : Switch) : Type 0 whe
 
 -- ---- what a replica keeps
 
+-- the record of this flow
 pub record RecordSized (n : ℕ) (key : Key) (r : Record) : Type 0 where
   pub key_fits : KeySized key
   pub epoch : r.epoch ≤ n
@@ -136,6 +146,7 @@ pub record RecordSized (n : ℕ) (key : Key) (r : Record) : Type 0 where
 abbrev pub GatheredSized : Gathered → Type 0
 GatheredSized g = (length g.parts ≤ 8) × Each (λ (p : Option (List ℕ)). length (part_cells p) ≤ 32) g.parts
 
+-- a replica; what it applied, knows and records is at most n
 pub record ReplicaSized (n d cells : ℕ) (r : Replica) : Type 0 where
   pub me : r.me < 5
   pub cells_are : r.cell_count ≡ cells

@@ -6,6 +6,7 @@
 
 pub mod books;
 pub mod cells;
+pub mod changes;
 pub mod first_facts;
 pub mod lease_basis;
 pub mod leases;
@@ -14,4 +15,6 @@ pub mod marks;
 pub mod replies;
 pub mod requests;
 pub mod straight;
+pub mod rows;
+pub mod sizes;
 pub mod worked_rows;
