@@ -1,2 +1,5 @@
 pub mod Forms
 pub mod Languages
+pub mod Basics
+pub mod Facts
+pub mod Expressions

@@ -3,4 +3,4 @@
 
 mod mark;
 
-pub use mark::{Mark, Piece, Properties, Spelled};
+pub use mark::{ChainOp, Mark, Piece, Properties, Spelled};

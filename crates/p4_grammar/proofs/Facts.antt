@@ -1,0 +1,305 @@
+-- What may go on behind an expression, and which tokens do.
+use Rattle.std.proofs.Common.{◌≡◌, ℕ, zero, suc, Bool, true, false, cond, nat_le, List, [], ◌∷◌, ◌++◌, Result, Ok, Err, refl, ap, subst, sym, ◌∙◌}
+use Rattle.p4_lex.specs.declared.token.Token.{Token}
+use Rattle.p4_lex.specs.declared.token.Sign.{Sign}
+use Rattle.p4_lex.specs.declared.token.Sign.TheVariants as sign
+use Rattle.p4_lex.specs.declared.token.Lexeme.{Lexeme}
+use Rattle.p4_lex.specs.declared.token.Lexeme.TheVariants as lexeme
+use Rattle.p4_ast.specs.declared.declaration.P4Type.{P4Type}
+use Rattle.p4_ast.specs.declared.expression.P4BinaryOp.{P4BinaryOp}
+use Rattle.p4_ast.specs.declared.expression.P4BinaryOp.TheVariants as binary_op
+use Rattle.p4_ast.specs.declared.expression.P4UnaryOp.{P4UnaryOp}
+use Rattle.p4_grammar.specs.declared.mark.Mark.{Mark}
+use Rattle.p4_grammar.specs.declared.mark.Mark.TheVariants as mark
+use Rattle.p4_grammar.specs.declared.mark.Spelled.{Spelled}
+use Rattle.p4_grammar.specs.declared.mark.ChainOp.{ChainOp}
+use Rattle.p4_grammar.specs.declared.mark.ChainOp.TheVariants as chains
+use Rattle.p4_grammar.specs.Forms.{is_given}
+use Rattle.p4_grammar.specs.Tokens.{is, sign_of, in_hand}
+use Rattle.p4_grammar.specs.Values.{later, of_cast, is_bare, begins_lexeme, begins_operand, sum_lexeme, sum_op, chain_lexeme, chain_op, compare_lexeme, compare_op, unary_lexeme, unary_op, this, again, joined, op_sign}
+
+-- the level of operators at which a sign goes on
+abbrev pub level : Sign → ℕ
+level sign.OpenSlice = 0
+level sign.Dot = 0
+level sign.Plus = 1
+level sign.Minus = 1
+level sign.Equal = 2
+level sign.NotEqual = 2
+level sign.Less = 2
+level sign.LessEqual = 2
+level sign.More = 2
+level sign.MoreEqual = 2
+level sign.SatPlus = 2
+level sign.SatMinus = 2
+level sign.BitAnd = 2
+level sign.BitOr = 2
+level sign.BitXor = 2
+level sign.ShiftLeft = 2
+level sign.ShiftRight = 2
+level sign.Concat = 2
+level sign.And = 3
+level sign.Or = 4
+level sign.Ask = 5
+level s = 9
+
+abbrev pub not_b : Bool → Bool
+not_b true = false
+not_b false = true
+
+-- whether it is what a read may be spelled as
+abbrev pub is_read : Mark → Bool
+is_read (mark.Read x) = true
+is_read (mark.CastRead t x) = true
+is_read mark.Bare = false
+is_read (mark.One x) = false
+is_read mark.Plain = false
+
+-- what goes on at level i behind a value that is bare, or one that a read may be spelled as
+abbrev pub goes_on : ℕ → Bool → Bool → Lexeme → Bool
+goes_on i b r (lexeme.Name text) = b
+goes_on i b r (lexeme.Number value width) = b
+goes_on i b r (lexeme.Sign sign.Open) = not_b r
+goes_on i b r (lexeme.Sign s) = cond (nat_le (level s) i) true (cond b (begins_lexeme (lexeme.Sign s)) false)
+
+abbrev pub V : ℕ → Spelled → Token → Bool
+V i x a = goes_on i (is_bare x.mark) (is_read x.mark) a.lexeme
+
+never : (b : Bool) → cond b false false ≡ false
+never true = refl
+never false = refl
+
+pub lower0 : (b r : Bool) (l : Lexeme) → goes_on 1 b r l ≡ false → goes_on 0 b r l ≡ false
+lower0 b r (lexeme.Name x) e = e
+lower0 b r (lexeme.Number x w) e = e
+lower0 b r (lexeme.Sign sign.Plus) e = absurd cc
+lower0 b r (lexeme.Sign sign.Minus) e = absurd cc
+lower0 b r (lexeme.Sign s) e = e
+
+pub lower1 : (b r : Bool) (l : Lexeme) → goes_on 2 b r l ≡ false → goes_on 1 b r l ≡ false
+lower1 b r (lexeme.Name x) e = e
+lower1 b r (lexeme.Number x w) e = e
+lower1 b r (lexeme.Sign sign.Equal) e = absurd cc
+lower1 b r (lexeme.Sign sign.NotEqual) e = absurd cc
+lower1 b r (lexeme.Sign sign.Less) e = absurd cc
+lower1 b r (lexeme.Sign sign.LessEqual) e = absurd cc
+lower1 b r (lexeme.Sign sign.More) e = absurd cc
+lower1 b r (lexeme.Sign sign.MoreEqual) e = absurd cc
+lower1 b r (lexeme.Sign sign.SatPlus) e = absurd cc
+lower1 b r (lexeme.Sign sign.SatMinus) e = absurd cc
+lower1 b r (lexeme.Sign sign.BitAnd) e = absurd cc
+lower1 b r (lexeme.Sign sign.BitOr) e = absurd cc
+lower1 b r (lexeme.Sign sign.BitXor) e = absurd cc
+lower1 b r (lexeme.Sign sign.ShiftLeft) e = absurd cc
+lower1 b r (lexeme.Sign sign.ShiftRight) e = absurd cc
+lower1 b r (lexeme.Sign sign.Concat) e = absurd cc
+lower1 b r (lexeme.Sign s) e = e
+
+pub lower2 : (b r : Bool) (l : Lexeme) → goes_on 3 b r l ≡ false → goes_on 2 b r l ≡ false
+lower2 b r (lexeme.Name x) e = e
+lower2 b r (lexeme.Number x w) e = e
+lower2 b r (lexeme.Sign sign.And) e = absurd cc
+lower2 b r (lexeme.Sign s) e = e
+
+pub lower3 : (b r : Bool) (l : Lexeme) → goes_on 4 b r l ≡ false → goes_on 3 b r l ≡ false
+lower3 b r (lexeme.Name x) e = e
+lower3 b r (lexeme.Number x w) e = e
+lower3 b r (lexeme.Sign sign.Or) e = absurd cc
+lower3 b r (lexeme.Sign s) e = e
+
+pub lower4 : (b r : Bool) (l : Lexeme) → goes_on 5 b r l ≡ false → goes_on 4 b r l ≡ false
+lower4 b r (lexeme.Name x) e = e
+lower4 b r (lexeme.Number x w) e = e
+lower4 b r (lexeme.Sign sign.Ask) e = absurd cc
+lower4 b r (lexeme.Sign s) e = e
+
+unread : (i : ℕ) (b r : Bool) (l : Lexeme) → goes_on i b false l ≡ false → goes_on i b r l ≡ false
+unread i b r (lexeme.Name x) e = e
+unread i b r (lexeme.Number x w) e = e
+unread i b r (lexeme.Sign sign.Open) e = absurd cc
+unread i b r (lexeme.Sign s) e = e
+
+-- what goes on with the end of a value goes on with the value
+pub by_later : (i : ℕ) (m : Mark) (l : Lexeme) → goes_on i (is_bare (later m)) (is_read (later m)) l ≡ false → goes_on i (is_bare m) (is_read m) l ≡ false
+by_later i mark.Bare l e = e
+by_later i (mark.One x) l e = e
+by_later i (mark.Read x) l e = unread i false true l e
+by_later i (mark.CastRead t x) l e = unread i false true l e
+by_later i mark.Plain l e = e
+
+pub by_cast : (i : ℕ) (t : P4Type) (m : Mark) (l : Lexeme) → goes_on i (is_bare (of_cast t m)) (is_read (of_cast t m)) l ≡ false → goes_on i (is_bare m) (is_read m) l ≡ false
+by_cast i t mark.Bare l e = e
+by_cast i t (mark.One x) l e = e
+by_cast i t (mark.Read x) l e = e
+by_cast i t (mark.CastRead u x) l e = unread i false true l e
+by_cast i t mark.Plain l e = e
+
+-- what may not go on with a value at all
+abbrev pub ends_all : Lexeme → Bool
+ends_all l = goes_on 5 true false l
+
+pub all_ends : (b r : Bool) (l : Lexeme) → ends_all l ≡ false → goes_on 5 b r l ≡ false
+all_ends b r (lexeme.Name x) e = absurd cc
+all_ends b r (lexeme.Number x w) e = absurd cc
+all_ends b r (lexeme.Sign sign.Open) e = absurd cc
+all_ends true r (lexeme.Sign sign.Not) e = e
+all_ends false r (lexeme.Sign sign.Not) e = absurd cc
+all_ends true r (lexeme.Sign sign.Complement) e = e
+all_ends false r (lexeme.Sign sign.Complement) e = absurd cc
+all_ends true r (lexeme.Sign sign.True) e = e
+all_ends false r (lexeme.Sign sign.True) e = absurd cc
+all_ends true r (lexeme.Sign sign.False) e = e
+all_ends false r (lexeme.Sign sign.False) e = absurd cc
+all_ends true r (lexeme.Sign s) e = e
+all_ends false r (lexeme.Sign sign.OpenSlice) e = absurd cc
+all_ends false r (lexeme.Sign sign.Dot) e = absurd cc
+all_ends false r (lexeme.Sign sign.Plus) e = absurd cc
+all_ends false r (lexeme.Sign sign.Minus) e = absurd cc
+all_ends false r (lexeme.Sign sign.Equal) e = absurd cc
+all_ends false r (lexeme.Sign sign.NotEqual) e = absurd cc
+all_ends false r (lexeme.Sign sign.Less) e = absurd cc
+all_ends false r (lexeme.Sign sign.LessEqual) e = absurd cc
+all_ends false r (lexeme.Sign sign.More) e = absurd cc
+all_ends false r (lexeme.Sign sign.MoreEqual) e = absurd cc
+all_ends false r (lexeme.Sign sign.SatPlus) e = absurd cc
+all_ends false r (lexeme.Sign sign.SatMinus) e = absurd cc
+all_ends false r (lexeme.Sign sign.BitAnd) e = absurd cc
+all_ends false r (lexeme.Sign sign.BitOr) e = absurd cc
+all_ends false r (lexeme.Sign sign.BitXor) e = absurd cc
+all_ends false r (lexeme.Sign sign.ShiftLeft) e = absurd cc
+all_ends false r (lexeme.Sign sign.ShiftRight) e = absurd cc
+all_ends false r (lexeme.Sign sign.Concat) e = absurd cc
+all_ends false r (lexeme.Sign sign.And) e = absurd cc
+all_ends false r (lexeme.Sign sign.Or) e = absurd cc
+all_ends false r (lexeme.Sign sign.Ask) e = absurd cc
+all_ends false r (lexeme.Sign s) e = refl
+
+-- ---- single tokens
+
+pub more_slice : (i : ℕ) (b r : Bool) (at : ℕ) (l : Lexeme) → goes_on 0 b r l ≡ false → is_given (sign_of sign.OpenSlice at l) ≡ false
+more_slice i b r at (lexeme.Name x) e = refl
+more_slice i b r at (lexeme.Number x w) e = refl
+more_slice i b r at (lexeme.Sign sign.OpenSlice) e = absurd cc
+more_slice i b r at (lexeme.Sign s) e = refl
+
+pub more_dot : (b r : Bool) (at : ℕ) (l : Lexeme) → goes_on 0 b r l ≡ false → is_given (sign_of sign.Dot at l) ≡ false
+more_dot b r at (lexeme.Name x) e = refl
+more_dot b r at (lexeme.Number x w) e = refl
+more_dot b r at (lexeme.Sign sign.Dot) e = absurd cc
+more_dot b r at (lexeme.Sign s) e = refl
+
+pub more_open : (b : Bool) (at : ℕ) (l : Lexeme) → goes_on 0 b false l ≡ false → is_given (sign_of sign.Open at l) ≡ false
+more_open b at (lexeme.Name x) e = refl
+more_open b at (lexeme.Number x w) e = refl
+more_open b at (lexeme.Sign sign.Open) e = absurd cc
+more_open b at (lexeme.Sign s) e = refl
+
+pub bare_operand : (l : Lexeme) → goes_on 0 true false l ≡ false → begins_lexeme l ≡ false
+bare_operand (lexeme.Name x) e = absurd cc
+bare_operand (lexeme.Number x w) e = absurd cc
+bare_operand (lexeme.Sign sign.OpenSlice) e = absurd cc
+bare_operand (lexeme.Sign sign.Dot) e = absurd cc
+bare_operand (lexeme.Sign sign.Open) e = absurd cc
+bare_operand (lexeme.Sign s) e = e
+
+pub sum_goes : (b r : Bool) (l : Lexeme) (o : P4BinaryOp) → sum_lexeme b l ≡ Ok o → goes_on 0 b r l ≡ false
+sum_goes b r (lexeme.Name x) o e = absurd cc
+sum_goes b r (lexeme.Number x w) o e = absurd cc
+sum_goes b r (lexeme.Sign sign.Plus) o e = never b
+sum_goes true r (lexeme.Sign sign.Minus) o e = absurd cc
+sum_goes false r (lexeme.Sign sign.Minus) o e = refl
+sum_goes b r (lexeme.Sign s) o e = absurd cc
+
+pub sum_stops : (b r : Bool) (l : Lexeme) → goes_on 1 b r l ≡ false → is_given (sum_lexeme b l) ≡ false
+sum_stops b r (lexeme.Name x) e = refl
+sum_stops b r (lexeme.Number x w) e = refl
+sum_stops b r (lexeme.Sign sign.Plus) e = absurd cc
+sum_stops b r (lexeme.Sign sign.Minus) e = absurd cc
+sum_stops b r (lexeme.Sign s) e = refl
+
+pub sum_no_chain : (b : Bool) (l : Lexeme) (o : P4BinaryOp) → sum_lexeme b l ≡ Ok o → is_given (chain_lexeme l) ≡ false
+sum_no_chain b (lexeme.Name x) o e = refl
+sum_no_chain b (lexeme.Number x w) o e = refl
+sum_no_chain b (lexeme.Sign sign.Plus) o e = refl
+sum_no_chain b (lexeme.Sign sign.Minus) o e = refl
+sum_no_chain b (lexeme.Sign s) o e = absurd cc
+
+pub chain_goes : (b r : Bool) (l : Lexeme) (o : ChainOp) → chain_lexeme l ≡ Ok o → goes_on 1 b r l ≡ false
+chain_goes b r (lexeme.Name x) o e = absurd cc
+chain_goes b r (lexeme.Number x w) o e = absurd cc
+chain_goes b r (lexeme.Sign sign.SatPlus) o e = never b
+chain_goes b r (lexeme.Sign sign.SatMinus) o e = never b
+chain_goes b r (lexeme.Sign sign.BitAnd) o e = never b
+chain_goes b r (lexeme.Sign sign.BitOr) o e = never b
+chain_goes b r (lexeme.Sign sign.BitXor) o e = never b
+chain_goes b r (lexeme.Sign sign.ShiftLeft) o e = never b
+chain_goes b r (lexeme.Sign sign.ShiftRight) o e = never b
+chain_goes b r (lexeme.Sign sign.Concat) o e = never b
+chain_goes b r (lexeme.Sign s) o e = absurd cc
+
+pub chain_stops : (b r : Bool) (l : Lexeme) → goes_on 2 b r l ≡ false → is_given (chain_lexeme l) ≡ false
+chain_stops b r (lexeme.Name x) e = refl
+chain_stops b r (lexeme.Number x w) e = refl
+chain_stops b r (lexeme.Sign sign.SatPlus) e = absurd cc
+chain_stops b r (lexeme.Sign sign.SatMinus) e = absurd cc
+chain_stops b r (lexeme.Sign sign.BitAnd) e = absurd cc
+chain_stops b r (lexeme.Sign sign.BitOr) e = absurd cc
+chain_stops b r (lexeme.Sign sign.BitXor) e = absurd cc
+chain_stops b r (lexeme.Sign sign.ShiftLeft) e = absurd cc
+chain_stops b r (lexeme.Sign sign.ShiftRight) e = absurd cc
+chain_stops b r (lexeme.Sign sign.Concat) e = absurd cc
+chain_stops b r (lexeme.Sign s) e = refl
+
+pub compare_goes : (b r : Bool) (l : Lexeme) (o : P4BinaryOp) → compare_lexeme l ≡ Ok o → goes_on 1 b r l ≡ false
+compare_goes b r (lexeme.Name x) o e = absurd cc
+compare_goes b r (lexeme.Number x w) o e = absurd cc
+compare_goes b r (lexeme.Sign sign.Equal) o e = never b
+compare_goes b r (lexeme.Sign sign.NotEqual) o e = never b
+compare_goes b r (lexeme.Sign sign.Less) o e = never b
+compare_goes b r (lexeme.Sign sign.LessEqual) o e = never b
+compare_goes b r (lexeme.Sign sign.More) o e = never b
+compare_goes b r (lexeme.Sign sign.MoreEqual) o e = never b
+compare_goes b r (lexeme.Sign s) o e = absurd cc
+
+pub compare_no_chain : (l : Lexeme) (o : P4BinaryOp) → compare_lexeme l ≡ Ok o → is_given (chain_lexeme l) ≡ false
+compare_no_chain (lexeme.Name x) o e = refl
+compare_no_chain (lexeme.Number x w) o e = refl
+compare_no_chain (lexeme.Sign sign.Equal) o e = refl
+compare_no_chain (lexeme.Sign sign.NotEqual) o e = refl
+compare_no_chain (lexeme.Sign sign.Less) o e = refl
+compare_no_chain (lexeme.Sign sign.LessEqual) o e = refl
+compare_no_chain (lexeme.Sign sign.More) o e = refl
+compare_no_chain (lexeme.Sign sign.MoreEqual) o e = refl
+compare_no_chain (lexeme.Sign s) o e = absurd cc
+
+pub compare_stops : (b r : Bool) (l : Lexeme) → goes_on 2 b r l ≡ false → is_given (compare_lexeme l) ≡ false
+compare_stops b r (lexeme.Name x) e = refl
+compare_stops b r (lexeme.Number x w) e = refl
+compare_stops b r (lexeme.Sign sign.Equal) e = absurd cc
+compare_stops b r (lexeme.Sign sign.NotEqual) e = absurd cc
+compare_stops b r (lexeme.Sign sign.Less) e = absurd cc
+compare_stops b r (lexeme.Sign sign.LessEqual) e = absurd cc
+compare_stops b r (lexeme.Sign sign.More) e = absurd cc
+compare_stops b r (lexeme.Sign sign.MoreEqual) e = absurd cc
+compare_stops b r (lexeme.Sign s) e = refl
+
+-- the sign of an operator is at level 2 of chains
+chain_level : (o : ChainOp) (b r : Bool) → goes_on 0 b r (lexeme.Sign (op_sign (joined o))) ≡ false
+chain_level chains.SatPlus b r = never b
+chain_level chains.SatMinus b r = never b
+chain_level chains.BitAnd b r = never b
+chain_level chains.BitOr b r = never b
+chain_level chains.BitXor b r = never b
+chain_level chains.ShiftLeft b r = never b
+chain_level chains.ShiftRight b r = never b
+chain_level chains.Concat b r = never b
+
+chain_true : (o : ChainOp) (b r : Bool) → goes_on 2 b r (lexeme.Sign (op_sign (joined o))) ≡ true
+chain_true chains.SatPlus b r = refl
+chain_true chains.SatMinus b r = refl
+chain_true chains.BitAnd b r = refl
+chain_true chains.BitOr b r = refl
+chain_true chains.BitXor b r = refl
+chain_true chains.ShiftLeft b r = refl
+chain_true chains.ShiftRight b r = refl
+chain_true chains.Concat b r = refl
