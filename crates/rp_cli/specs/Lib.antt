@@ -2,3 +2,4 @@ pub mod Ports
 pub mod Reports
 pub mod Top
 pub mod Seen
+pub mod Telling

@@ -1,10 +1,11 @@
 //! Files, standard output, the clock and UDP sockets, behind the traits of the outside. None tells its contents.
 ghost use Rattle.std.specs.Prelude.{◌≡◌, ◌≤◌, ◌+◌, ◌^◌, [], None, length, OnOk};
-ghost use Rattle.rp_cli.specs.Ports.{node_port};
+ghost use Rattle.std.specs.Net.Socket.{socket_ip, socket_port};
+ghost use Rattle.rp_cli.specs.Ports.{node_port, IsHere};
 
 use rp_base::{Bytes, Clock, Failed, InputEnd, Inputs, Link, LinkEnd, Node, Sink};
 use std::io::{ErrorKind, Read, Write};
-use std::net::{Ipv4Addr, Net, SocketAddr, UdpSocket};
+use std::net::{IpAddr, Ipv4Addr, Net, SocketAddr, UdpSocket};
 use std::rt::Files;
 use std::time::Instant;
 use std::{fs, io};
@@ -152,8 +153,11 @@ fn port_of(node: Node) -> u16
     }
 }
 
-fn address_of(node: Node) -> SocketAddr {
-    SocketAddr::from((Ipv4Addr::LOCALHOST, port_of(node)))
+fn address_of(node: Node) -> SocketAddr
+    ensures here { IsHere (socket_ip result) }
+    ensures port { socket_port result ≡ node_port node }
+{
+    SocketAddr::new(IpAddr::V4(Ipv4Addr::LOCALHOST), port_of(node))
 }
 
 fn bound<R: Net>(rt: &R, node: Node) -> io::Result<Endpoint> {

@@ -1,6 +1,9 @@
 //! The program: runs a schedule and writes its report.
 #![tactic(auto)]
 
+ghost use Rattle.std.specs.Prelude.{◌≡◌};
+ghost use Rattle.rp_cli.specs.Telling.{why_text};
+
 mod adapters;
 mod running;
 mod status;
@@ -37,7 +40,10 @@ fn words_of<R: Env>(rt: &R, alloc: Global) -> Result<Words, NoMemory> {
     Ok(words)
 }
 
-fn why_name(why: SchedWhy) -> &'static str {
+// The name of the cause for which a schedule is refused.
+fn why_name(why: SchedWhy) -> &'static str
+    ensures { result.now ≡ why_text why }
+{
     match why {
         SchedWhy::TooLong => "TooLong",
         SchedWhy::Many => "Many",
