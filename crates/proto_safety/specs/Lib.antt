@@ -12,3 +12,4 @@ pub mod Firsts
 pub mod SwitchSent
 pub mod Origins
 pub mod Frames
+pub mod NeededPremises
