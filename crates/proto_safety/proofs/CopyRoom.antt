@@ -1,5 +1,5 @@
 -- A switch never has more than 1,024 copies.
-use Rattle.std.proofs.Common.{◌≡◌, ℕ, ◌+◌, ◌≤◌, ◌<◌, ◌/◌, List, [], ◌∷◌, ◌++◌, length, map, filter, Option, Some, None, arith, refl, subst, true, false, Bool, zero, suc, length-append}
+use Rattle.std.proofs.Common.{◌≡◌, ℕ, ◌+◌, ◌≤◌, ◌/◌, List, [], ◌∷◌, ◌++◌, length, map, filter, Option, Some, None, arith, refl, true, false, Bool, zero, suc, length-append}
 use Rattle.std.specs.Prelude.{◌&&◌, ◌||◌, not, nat_lt, is_some, if◌then◌else◌}
 use Rattle.std.proofs.lemmas.Bool.{and_parts, ltb-true, leb-false}
 use Rattle.rp_base.specs.declared.event.Event.{Event}

@@ -1,12 +1,9 @@
 -- A mark that waits in a `held` ring: how a switch's step changes the ring, and how long the mark stays.
-use Rattle.std.proofs.Common.{◌≡◌, ◌≢◌, ℕ, ◌+◌, ◌≤◌, ◌<◌, List, [], ◌∷◌, ◌++◌, length, map, filter, Option, Some, None, arith, refl, sym, ap, ◌∙◌, subst, true, false, Bool, append_assoc, length-append, eqb-true, eq-eqb}
+use Rattle.std.proofs.Common.{◌≡◌, ℕ, ◌+◌, ◌≤◌, ◌<◌, List, [], ◌∷◌, ◌++◌, length, map, filter, Option, Some, None, arith, refl, sym, ap, ◌∙◌, subst, true, false, Bool, append_assoc, length-append, eq-eqb}
 use Rattle.std.specs.Prelude.{◌==◌, ◌&&◌, ◌||◌, if◌then◌else◌, nat_lt, drop}
 use Rattle.std.proofs.lemmas.Bool.{both_ways, lt-ltb}
 use Rattle.std.proofs.lemmas.List.{map-append}
-use Rattle.rp_base.specs.declared.node.Node.{Node}
-use Rattle.rp_base.specs.declared.node.Output.{Output}
 use Rattle.proto_data.specs.declared.message.Msg.{Msg}
-use Rattle.proto_data.specs.declared.message.Body.{Body}
 use Rattle.proto_data.specs.declared.message.Input.{Input}
 use Rattle.proto_data.specs.declared.message.Carried.{Carried}
 use Rattle.rp_app.specs.Application.{Application}
@@ -23,8 +20,8 @@ use Rattle.proto_model.specs.Table.{Key, Table, same_key, get, put, map_values}
 use Rattle.proto_safety.proofs.AlarmInduction.{WalkKeeps, walk_kept}
 use Rattle.proto_safety.proofs.Lists.{length_map}
 use Rattle.proto_safety.proofs.SlotCells.{mapped}
-use Rattle.proto_safety.proofs.SwitchMarks.{ReadyMarks, ready_marks}
-use Rattle.proto_safety.proofs.SwitchTable.{Acts, ask_again, no_copy_room, too_old, direct, snapped, mirrored, granted_only, late, acked, round_done, denied, busied, row_acts}
+use Rattle.proto_safety.proofs.SwitchMarks.{ready_marks}
+use Rattle.proto_safety.proofs.SwitchTable.{Acts, ask_again, no_copy_room, too_old, direct, snapped, mirrored, granted_only, acked, round_done, busied, row_acts}
 use Rattle.proto_safety.proofs.Tables.{get-put_same, get-put_other, get-map_values, same_key-true, same_key-refl, same_some}
 
 -- ---- a mark in a ring

@@ -1,27 +1,26 @@
 -- A run, place by place: the world behind an event, what only grows, and what a switch comes to while no node fails, boots or is detected.
-use Rattle.std.proofs.Common.{◌≡◌, ◌≢◌, ◌⊎◌, inl, inr, ℕ, ◌+◌, ◌-◌, ◌≤◌, ◌<◌, List, [], ◌∷◌, ◌++◌, length, Option, Some, None, arith, refl, sym, ap, ◌∙◌, subst, true, false, Bool, slice_get, zero, suc, take, eqb-true, eq-eqb, set}
+use Rattle.std.proofs.Common.{◌≡◌, ◌≢◌, ℕ, ◌+◌, ◌-◌, ◌≤◌, ◌<◌, List, [], ◌∷◌, ◌++◌, Option, Some, None, arith, refl, sym, ap, ◌∙◌, subst, true, false, Bool, slice_get, zero, suc, take, eqb-true, eq-eqb, set}
 use Rattle.std.specs.Prelude.{option_map, ◌==◌}
 use Rattle.std.specs.List.{range_with_len}
 use Rattle.std.proofs.lemmas.Bool.{false≢true, both_ways}
 use Rattle.rp_base.specs.declared.node.Node.{Node}
-use Rattle.rp_base.specs.declared.node.Packet.{Packet}
 use Rattle.rp_base.specs.declared.node.Output.{Output}
 use Rattle.rp_base.specs.declared.event.Event.{Event}
 use Rattle.proto_data.specs.declared.message.Msg.{Msg}
 use Rattle.proto_data.specs.declared.message.Input.{Input}
 use Rattle.rp_app.specs.Application.{Application}
-use Rattle.proto_model.specs.Effects.{added, packet_fed, frame_passed, switch_moved}
+use Rattle.proto_model.specs.Effects.{added, packet_fed, frame_passed}
 use Rattle.proto_model.specs.Feeds.{Each}
 use Rattle.proto_model.specs.ReplicaRows.{store_step}
 use Rattle.proto_model.specs.Runs.{Run, before, act_at, between}
 use Rattle.proto_model.specs.Straight.{is_calm}
 use Rattle.proto_model.specs.SwitchRows.{switch_step}
-use Rattle.proto_model.specs.World.{World, Setup, SwitchNode, ReplicaNode, Released, opened}
-use Rattle.proto_model.specs.WorldStep.{Act, Refuses, Feeds, Delivers, Passes, Advances, Alarms, Stops, Boots, Detects, Announces, Pumps, act_of, perform_act, node_takes, switch_takes, replica_takes, advanced, advanced_switches, announcements, next_event, world_step, world_after}
-use Rattle.proto_safety.specs.Books.{In, IsPrefix}
+use Rattle.proto_model.specs.World.{World, SwitchNode, ReplicaNode, Released, opened}
+use Rattle.proto_model.specs.WorldStep.{Act, Refuses, Feeds, Delivers, Passes, Advances, Alarms, Stops, Boots, Detects, Announces, Pumps, act_of, perform_act, node_takes, switch_takes, replica_takes, advanced_switches, announcements, next_event, world_step, world_after}
+use Rattle.proto_safety.specs.Books.{IsPrefix}
 use Rattle.proto_safety.proofs.Acts.{Fits, act_fits}
 use Rattle.proto_safety.proofs.ClockSums.{take_one_more, take_all_there, after_one_more}
-use Rattle.proto_safety.proofs.Induction.{Keeps, Comes, with_fed, event_kept}
+use Rattle.proto_safety.proofs.Induction.{Keeps, event_kept}
 use Rattle.proto_safety.proofs.Places.{get-set_same, prefix_same, prefix_push, prefix_trans}
 
 -- ---- one event

@@ -1,13 +1,11 @@
 -- An Ask on a straight path: at the Grant its packet is processed, or there is no room for another copy.
-use Rattle.std.proofs.Common.{◌≡◌, ◌⊎◌, inl, inr, ℕ, ◌+◌, ◌-◌, ◌≤◌, ◌<◌, List, [], ◌∷◌, ◌++◌, length, Option, Some, None, arith, refl, sym, ap, ◌∙◌, subst, true, false, Bool, slice_get, take, zero, suc, eq-eqb, eqb-true}
+use Rattle.std.proofs.Common.{◌≡◌, inl, inr, ℕ, ◌+◌, ◌-◌, ◌≤◌, ◌<◌, List, [], ◌∷◌, ◌++◌, length, Option, Some, None, arith, refl, sym, ap, ◌∙◌, subst, true, false, Bool, slice_get, take, zero, suc, eq-eqb, eqb-true}
 use Rattle.std.specs.Prelude.{◌==◌, ◌&&◌, not, nat_le, option_map, unwrap_or, if◌then◌else◌}
-use Rattle.std.specs.List.{IsAmong}
 use Rattle.std.proofs.lemmas.Bool.{and_parts, and_from, false≢true, leb-true}
 use Rattle.std.proofs.lemmas.List.{length-replicate}
 use Rattle.rp_base.specs.declared.node.Node.{Node}
 use Rattle.rp_base.specs.declared.node.Packet.{Packet}
 use Rattle.rp_base.specs.declared.node.Output.{Output}
-use Rattle.rp_base.specs.declared.event.Event.{Event}
 use Rattle.rp_base.specs.declared.event.DropCause.{DropCause}
 use Rattle.proto_data.specs.declared.message.Msg.{Msg}
 use Rattle.proto_data.specs.declared.message.Body.{Body}
@@ -20,23 +18,23 @@ use Rattle.rp_app.specs.Application.{Application, Delta, written}
 use Rattle.proto_model.specs.Carrying.{carried_packet, packet_of}
 use Rattle.proto_model.specs.Effects.{added, made_output, frame_passed, switch_lines}
 use Rattle.proto_model.specs.Feeds.{Each}
-use Rattle.proto_model.specs.Lines.{Line, Dropped}
-use Rattle.proto_model.specs.ReplicaRows.{StoreRow, Appends, store_row, owner_answer, with_entry}
+use Rattle.proto_model.specs.Lines.{Dropped}
+use Rattle.proto_model.specs.ReplicaRows.{Appends, store_row, owner_answer, with_entry}
 use Rattle.proto_model.specs.ReplicaState.{Replica, record_at}
 use Rattle.proto_model.specs.Ring.{remembers}
-use Rattle.proto_model.specs.Runs.{Run, before, act_at, lines_at, between}
+use Rattle.proto_model.specs.Runs.{Run, before, act_at, lines_at}
 use Rattle.proto_model.specs.Slot.{Slot, Lease, Idle, Asking, Held, Lapsed, is_young, lapsed_slot}
 use Rattle.proto_model.specs.Stands.{entries_of}
-use Rattle.proto_model.specs.Straight.{Hop, StraightAsk, AskAnswered, AsksAnswered, Processed, NoMirror, is_calm, reached, row_of, awaits, awaits_at, awaits_lease}
-use Rattle.proto_model.specs.SwitchRow.{SwitchRow, Drops, Direct, Mirrored, is_clean, message_row, process_row, granted, without_asked, switch_row}
+use Rattle.proto_model.specs.Straight.{Hop, StraightAsk, AskAnswered, AsksAnswered, is_calm, reached, row_of, awaits, awaits_at, awaits_lease}
+use Rattle.proto_model.specs.SwitchRow.{Drops, Direct, Mirrored, is_clean, message_row, process_row, granted, without_asked, switch_row}
 use Rattle.proto_model.specs.SwitchActs.{perform}
 use Rattle.proto_model.specs.SwitchRows.{switch_step}
 use Rattle.proto_model.specs.SwitchState.{Switch, Item, slot_at, lapsed, has_copies, only_dropped}
 use Rattle.proto_model.specs.Table.{Key, same_key}
 use Rattle.proto_model.specs.World.{World, SwitchNode, ReplicaNode, Journaled, opened}
-use Rattle.proto_model.specs.WorldStep.{Act, Delivers, act_of, next_event, perform_act, node_takes, switch_takes, world_step}
-use Rattle.proto_safety.specs.Books.{In, committed_of}
-use Rattle.proto_safety.specs.Flows.{Flow, flow_in, flow_of, flow_from, flow_step, flow_cells}
+use Rattle.proto_model.specs.WorldStep.{Act, Delivers, next_event, perform_act, node_takes, switch_takes, world_step}
+use Rattle.proto_safety.specs.Books.{In}
+use Rattle.proto_safety.specs.Flows.{Flow, flow_from, flow_step, flow_cells}
 use Rattle.proto_safety.specs.Origins.{Origin}
 use Rattle.proto_safety.specs.SwitchSent.{SaysNow}
 use Rattle.proto_safety.proofs.CellsGround.{Based, based_kept}
@@ -49,14 +47,14 @@ use Rattle.proto_safety.proofs.Induction.{run_kept}
 use Rattle.proto_safety.proofs.LegalRun.{opened_laid}
 use Rattle.proto_safety.proofs.Lists.{each_at}
 use Rattle.proto_safety.proofs.NoSnaps.{NoSnap}
-use Rattle.proto_safety.proofs.RunSteps.{EventAt, event_at, event_number, ended, at_between, CameTo, rests, steps, came_to}
+use Rattle.proto_safety.proofs.RunSteps.{event_at, event_number, ended, at_between, CameTo, rests, steps, came_to}
 use Rattle.proto_safety.proofs.StraightHops.{Answered, appending, reaches_tail, next_hop}
 use Rattle.proto_safety.proofs.StraightPuts.{in_among}
 use Rattle.proto_safety.proofs.StraightStart.{requested}
 use Rattle.proto_safety.proofs.StraightTail.{record_says, node_there, entries_are, hop_delivered, answer_taken, strict_there}
 use Rattle.proto_safety.proofs.StraightWaits.{hops_later}
 use Rattle.proto_safety.proofs.SwitchSends.{IsRequest}
-use Rattle.proto_safety.proofs.Tables.{get-map_values, same_some}
+use Rattle.proto_safety.proofs.Tables.{get-map_values}
 use Rattle.proto_safety.proofs.WorldOrigins.{NodeOrigins}
 
 -- ---- how many cells a flow has

@@ -1,6 +1,6 @@
 -- A straight path hop by hop: each replica appends the entry and hands it on with what it carries, until the tail answers.
-use Rattle.std.proofs.Common.{◌≡◌, ◌⊎◌, inl, inr, ℕ, ◌+◌, ◌-◌, ◌≤◌, ◌<◌, List, [], ◌∷◌, ◌++◌, length, Option, Some, None, arith, refl, sym, ap, ◌∙◌, subst, true, false, Bool, slice_get, nat_le}
-use Rattle.std.specs.Prelude.{◌==◌, ◌&&◌, if◌then◌else◌, option_map}
+use Rattle.std.proofs.Common.{◌≡◌, ◌⊎◌, inl, inr, ℕ, ◌+◌, ◌<◌, List, [], ◌∷◌, length, Option, Some, None, refl, sym, ap, ◌∙◌, subst, true, false, Bool, slice_get, nat_le}
+use Rattle.std.specs.Prelude.{◌==◌, if◌then◌else◌}
 use Rattle.std.proofs.lemmas.Bool.{and_parts, false≢true}
 use Rattle.rp_base.specs.declared.node.Node.{Node}
 use Rattle.rp_base.specs.declared.event.Lost.{Lost}
@@ -14,7 +14,7 @@ use Rattle.rp_app.specs.Application.{Delta}
 use Rattle.proto_model.specs.Effects.{replica_moved, frame_passed}
 use Rattle.proto_model.specs.Feeds.{Each}
 use Rattle.proto_model.specs.Records.{entry_fits, delta_within}
-use Rattle.proto_model.specs.ReplicaRows.{StoreRow, Loses, Answers, Echoes, Appends, store_row, store_step, store_perform, store_message_row, put_row, forward_row, covered, appended_as, appended, tail_appended, owner_answer, with_entry, entry_key}
+use Rattle.proto_model.specs.ReplicaRows.{StoreRow, Loses, Answers, Appends, store_row, store_step, store_perform, store_message_row, put_row, covered, appended_as, appended, tail_appended, owner_answer, with_entry, entry_key}
 use Rattle.proto_model.specs.ReplicaState.{Replica, StoreStep, record_at, is_head, is_tail, is_member, to_replica, to_node, successor_of, predecessor_of}
 use Rattle.proto_model.specs.Runs.{Run, before, act_at}
 use Rattle.proto_model.specs.Straight.{Hop, Hops, SentAt, load_of, replica_at, reached, comes_next, put_next}
@@ -24,7 +24,7 @@ use Rattle.proto_model.specs.WorldStep.{Delivers, node_takes, replica_takes, run
 use Rattle.proto_safety.specs.Books.{In}
 use Rattle.proto_safety.proofs.EventFrames.{at_behind}
 use Rattle.proto_safety.proofs.FlowAlarm.{in_append}
-use Rattle.proto_safety.proofs.RunSteps.{EventAt, event_at}
+use Rattle.proto_safety.proofs.RunSteps.{event_at}
 use Rattle.proto_safety.proofs.StraightStart.{frame_there}
 
 -- ---- what an append sends

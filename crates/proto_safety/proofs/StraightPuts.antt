@@ -1,11 +1,10 @@
 -- A Put on a straight path: its output is released at the last hop.
-use Rattle.std.proofs.Common.{◌≡◌, ℕ, ◌+◌, ◌≤◌, ◌<◌, List, [], ◌∷◌, ◌++◌, length, Option, Some, None, arith, refl, sym, ap, ◌∙◌, subst, inl, inr, true, false, Bool, slice_get, take, zero, suc, eq-eqb}
+use Rattle.std.proofs.Common.{◌≡◌, ℕ, ◌+◌, ◌<◌, List, [], ◌∷◌, ◌++◌, Option, Some, None, arith, refl, sym, ap, ◌∙◌, subst, inl, inr, true, false, Bool, take, suc, eq-eqb}
 use Rattle.std.specs.Prelude.{◌==◌, ◌&&◌, nat_le, option_map, if◌then◌else◌}
-use Rattle.std.specs.List.{IsAmong, slice_index_or}
+use Rattle.std.specs.List.{IsAmong}
 use Rattle.std.proofs.lemmas.Bool.{and_from, false≢true}
 use Rattle.rp_base.specs.declared.node.Node.{Node}
 use Rattle.rp_base.specs.declared.node.Output.{Output}
-use Rattle.rp_base.specs.declared.event.Event.{Event}
 use Rattle.proto_data.specs.declared.message.Msg.{Msg}
 use Rattle.proto_data.specs.declared.message.Body.{Body}
 use Rattle.proto_data.specs.declared.message.Entry.{Entry}
@@ -17,25 +16,25 @@ use Rattle.rp_app.specs.Application.{Application, Delta}
 use Rattle.proto_model.specs.Carrying.{carried_output, output_of}
 use Rattle.proto_model.specs.Effects.{added}
 use Rattle.proto_model.specs.ReplicaRows.{store_message_row, owner_answer, with_entry}
-use Rattle.proto_model.specs.ReplicaState.{Replica, record_at, to_node}
+use Rattle.proto_model.specs.ReplicaState.{Replica, record_at}
 use Rattle.proto_model.specs.Ring.{remembers}
 use Rattle.proto_model.specs.Runs.{Run, before}
 use Rattle.proto_model.specs.Slot.{Slot, Lease, Idle, Asking, Held, Lapsed, lapsed_slot, lapsed_lease}
 use Rattle.proto_model.specs.Straight.{Hop, StraightPut, PutReleased, PutsRelease, reached, record_of, put_next, owns, slot_of}
-use Rattle.proto_model.specs.SwitchRow.{has_epoch, message_row, at_slot, ack_row}
+use Rattle.proto_model.specs.SwitchRow.{has_epoch, message_row}
 use Rattle.proto_model.specs.SwitchActs.{perform}
 use Rattle.proto_model.specs.SwitchRows.{switch_step}
-use Rattle.proto_model.specs.SwitchState.{Switch, SwitchStep, slot_at, lapsed}
-use Rattle.proto_model.specs.Table.{Key, get}
-use Rattle.proto_model.specs.World.{World, SwitchNode, ReplicaNode, Released}
+use Rattle.proto_model.specs.SwitchState.{Switch, slot_at, lapsed}
+use Rattle.proto_model.specs.Table.{Key}
+use Rattle.proto_model.specs.World.{World, ReplicaNode}
 use Rattle.proto_model.specs.WorldStep.{Delivers}
 use Rattle.proto_safety.specs.Books.{In, committed_of}
 use Rattle.proto_safety.proofs.BookEpochLaws.{books_fit, committed_fits}
-use Rattle.proto_safety.proofs.BookEpochs.{SameOwner, one_grant}
+use Rattle.proto_safety.proofs.BookEpochs.{one_grant}
 use Rattle.proto_safety.proofs.FlowAlarm.{to_append}
 use Rattle.proto_safety.proofs.FlowBooks.{granted_in, in_prefix}
 use Rattle.proto_safety.proofs.LeasesRest.{leases_rest}
-use Rattle.proto_safety.proofs.RunSteps.{EventAt, event_at, event_number, at_between}
+use Rattle.proto_safety.proofs.RunSteps.{event_at, event_number, at_between}
 use Rattle.proto_safety.proofs.SlotFirsts.{has_leased}
 use Rattle.proto_safety.proofs.StraightHops.{Answered, OnlyAppends, appending, reaches_tail, next_hop, put_only}
 use Rattle.proto_safety.proofs.StraightTail.{book_fits, record_says, stays_committed, last_flow, hop_delivered, answer_taken, strict_there}

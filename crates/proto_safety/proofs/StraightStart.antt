@@ -1,7 +1,6 @@
 -- Where a straight path begins: the switch's step that sent a request with what it carries.
-use Rattle.std.proofs.Common.{◌≡◌, ℕ, ◌+◌, ◌≤◌, ◌<◌, List, [], ◌∷◌, ◌++◌, length, map, Option, Some, None, arith, refl, sym, ap, ◌∙◌, subst, inl, inr, true, false, Bool, slice_get, set, take, zero, suc}
+use Rattle.std.proofs.Common.{◌≡◌, ℕ, ◌+◌, ◌≤◌, ◌<◌, List, [], ◌∷◌, ◌++◌, length, map, Option, Some, None, arith, refl, sym, ap, ◌∙◌, subst, inl, inr, slice_get, set, take, zero, suc}
 use Rattle.rp_base.specs.declared.node.Node.{Node}
-use Rattle.rp_base.specs.declared.node.Output.{Output}
 use Rattle.proto_data.specs.declared.message.Msg.{Msg}
 use Rattle.proto_data.specs.declared.message.Body.{Body}
 use Rattle.proto_data.specs.declared.message.Config.{Config}
@@ -10,7 +9,6 @@ use Rattle.proto_data.specs.declared.message.Input.{Input}
 use Rattle.proto_data.specs.declared.message.Carried.{Carried}
 use Rattle.rp_app.specs.Application.{Application, Delta}
 use Rattle.proto_model.specs.Carrying.{carried_output}
-use Rattle.proto_model.specs.Effects.{switch_moved}
 use Rattle.proto_model.specs.Feeds.{Each}
 use Rattle.proto_model.specs.ReplicaRows.{store_step}
 use Rattle.proto_model.specs.ReplicaState.{Replica}
@@ -25,9 +23,9 @@ use Rattle.proto_model.specs.SwitchRow.{SwitchRow, NewAsk, AskAgain, Mirrored, L
 use Rattle.proto_model.specs.SwitchRows.{switch_step}
 use Rattle.proto_model.specs.SwitchState.{Switch, SwitchStep, slot_at, lapsed}
 use Rattle.proto_model.specs.Table.{Key, Table}
-use Rattle.proto_model.specs.World.{World, SwitchNode, opened}
+use Rattle.proto_model.specs.World.{World, SwitchNode}
 use Rattle.proto_model.specs.WorldStep.{Act, Delivers, announcements}
-use Rattle.proto_safety.specs.Books.{In, IsPrefix, BooksHold}
+use Rattle.proto_safety.specs.Books.{In, BooksHold}
 use Rattle.proto_safety.specs.SwitchSent.{SentNow}
 use Rattle.proto_safety.proofs.AlarmInduction.{WalkKeeps, walk_kept}
 use Rattle.proto_safety.proofs.BooksStep.{step_sent}
@@ -36,7 +34,7 @@ use Rattle.proto_safety.proofs.EventFrames.{EventDid, by_switch, by_replica, by_
 use Rattle.proto_safety.proofs.FlowInduction.{step_same}
 use Rattle.proto_safety.proofs.Lists.{each_append, each_if, each_map, each_take}
 use Rattle.proto_safety.proofs.Places.{get-set_same}
-use Rattle.proto_safety.proofs.RunSteps.{EventAt, event_at, ended, one_later, onward}
+use Rattle.proto_safety.proofs.RunSteps.{event_at, ended, one_later, onward}
 use Rattle.proto_safety.proofs.StoreBooks.{SentBooks}
 use Rattle.proto_safety.proofs.StoreStands.{book_after}
 use Rattle.proto_safety.proofs.SwitchSays.{step_says}

@@ -1,9 +1,8 @@
 -- Where a straight path turns: what the committed book says once the tail has answered, and the switch's step at the last hop.
-use Rattle.std.proofs.Common.{◌≡◌, ℕ, ◌+◌, ◌≤◌, ◌<◌, List, [], ◌∷◌, ◌++◌, Option, Some, None, arith, refl, sym, ap, ◌∙◌, subst, true, false, Bool, slice_get, set, take}
+use Rattle.std.proofs.Common.{◌≡◌, ℕ, ◌+◌, ◌≤◌, List, [], ◌∷◌, ◌++◌, Option, Some, None, refl, sym, ap, ◌∙◌, subst, slice_get, set, take}
 use Rattle.std.specs.Prelude.{option_map}
 use Rattle.std.proofs.lemmas.Grind.{fold-append}
 use Rattle.rp_base.specs.declared.node.Node.{Node}
-use Rattle.proto_data.specs.declared.message.Msg.{Msg}
 use Rattle.proto_data.specs.declared.message.Entry.{Entry}
 use Rattle.proto_data.specs.declared.message.Input.{Input}
 use Rattle.proto_data.specs.declared.message.Record.{Record}
@@ -11,18 +10,18 @@ use Rattle.proto_data.specs.declared.message.Carried.{Carried}
 use Rattle.proto_data.specs.declared.terms.Mode.{Mode}
 use Rattle.rp_app.specs.Application.{Delta}
 use Rattle.proto_model.specs.Effects.{frame_passed, switch_moved}
-use Rattle.proto_model.specs.ReplicaRows.{store_step, tail_appended, with_entry}
+use Rattle.proto_model.specs.ReplicaRows.{with_entry}
 use Rattle.proto_model.specs.ReplicaState.{Replica, StoreStep, record_at, is_tail}
 use Rattle.proto_model.specs.Runs.{Run, before, act_at}
 use Rattle.proto_model.specs.Stands.{Stands, entries_of}
-use Rattle.proto_model.specs.Straight.{Hop, Hops, SentAt}
+use Rattle.proto_model.specs.Straight.{Hop, Hops}
 use Rattle.proto_model.specs.SwitchRows.{switch_step}
 use Rattle.proto_model.specs.Table.{Key}
 use Rattle.proto_model.specs.World.{World, SwitchNode, ReplicaNode, opened}
 use Rattle.proto_model.specs.WorldStep.{Delivers, node_takes, switch_takes, next_event}
-use Rattle.proto_safety.specs.Books.{In, IsPrefix, BooksHold, committed_of}
+use Rattle.proto_safety.specs.Books.{IsPrefix, BooksHold, committed_of}
 use Rattle.proto_safety.specs.Flows.{Flow, FitsFrom, flow_in, flow_of, flow_step}
-use Rattle.proto_safety.proofs.BookEpochLaws.{books_fit, committed_fits}
+use Rattle.proto_safety.proofs.BookEpochLaws.{books_fit}
 use Rattle.proto_safety.proofs.BookEpochs.{fits_parts}
 use Rattle.proto_safety.proofs.BooksStep.{node_after, tail_book}
 use Rattle.proto_safety.proofs.Ground.{Ground, ground_kept}
@@ -30,10 +29,10 @@ use Rattle.proto_safety.proofs.Induction.{Comes, keeps_both, run_kept}
 use Rattle.proto_safety.proofs.LegalRun.{opened_laid, laid_stands}
 use Rattle.proto_safety.proofs.Lists.{each_at}
 use Rattle.proto_safety.proofs.Places.{get-set_same, prefix_same}
-use Rattle.proto_safety.proofs.RunSteps.{EventAt, event_at, kept_between}
+use Rattle.proto_safety.proofs.RunSteps.{event_at, kept_between}
 use Rattle.proto_safety.proofs.StoreReplies.{record_flow}
 use Rattle.proto_safety.proofs.StoreStands.{book_after, entries_of-push}
-use Rattle.proto_safety.proofs.StraightHops.{Appending, Answered}
+use Rattle.proto_safety.proofs.StraightHops.{Answered}
 use Rattle.proto_safety.proofs.Tables.{same_key-refl}
 use Rattle.proto_safety.proofs.WorldBooks.{books_kept, books_hold, known_input, committed_kept}
 use Rattle.proto_safety.proofs.WorldFits.{NodeFits}

@@ -1,7 +1,7 @@
 -- While a straight path goes on, the mark of its Put waits in the slot's `held` ring.
 use Rattle.std.proofs.Common.{◌≡◌, ◌≢◌, ℕ, ◌+◌, ◌-◌, ◌≤◌, ◌<◌, List, [], ◌∷◌, ◌++◌, length, drop, filter, Option, Some, None, arith, refl, sym, ap, ◌∙◌, subst, inl, inr, true, false, Bool, slice_get, zero, suc, length-append, eqb-true}
 use Rattle.std.specs.Prelude.{◌==◌, ◌&&◌, option_and_then}
-use Rattle.std.proofs.lemmas.Bool.{false≢true, both_ways}
+use Rattle.std.proofs.lemmas.Bool.{false≢true}
 use Rattle.std.proofs.lemmas.List.Elements.{filter-append}
 use Rattle.rp_base.specs.declared.node.Output.{Output}
 use Rattle.proto_data.specs.declared.message.Msg.{Msg}
@@ -12,24 +12,24 @@ use Rattle.rp_app.specs.Application.{Application, Delta}
 use Rattle.proto_model.specs.Carrying.{carried_output, output_of}
 use Rattle.proto_model.specs.Effects.{added}
 use Rattle.proto_model.specs.Feeds.{Each}
-use Rattle.proto_model.specs.Ring.{remembers, remember, forget}
-use Rattle.proto_model.specs.Runs.{Run, before, act_at, between}
-use Rattle.proto_model.specs.Slot.{Slot, epoch_of}
-use Rattle.proto_model.specs.Straight.{Hop, Hops, SentAt, StraightPut, is_calm, slot_of, owns, later_marks, enters_held, from_switch}
+use Rattle.proto_model.specs.Ring.{remembers}
+use Rattle.proto_model.specs.Runs.{Run, before, act_at}
+use Rattle.proto_model.specs.Slot.{Slot}
+use Rattle.proto_model.specs.Straight.{Hop, Hops, StraightPut, is_calm, slot_of, owns, later_marks, enters_held, from_switch}
 use Rattle.proto_model.specs.SwitchRow.{has_epoch}
 use Rattle.proto_model.specs.SwitchRows.{switch_step}
 use Rattle.proto_model.specs.SwitchState.{slot_at}
 use Rattle.proto_model.specs.Table.{Key}
 use Rattle.proto_model.specs.World.{World, SwitchNode, Released}
-use Rattle.proto_model.specs.WorldStep.{Act, next_event, perform_act}
+use Rattle.proto_model.specs.WorldStep.{Act}
 use Rattle.proto_safety.specs.Books.{In, IsPrefix}
 use Rattle.proto_safety.proofs.Chains.{each_in}
 use Rattle.proto_safety.proofs.FlowAlarm.{to_append}
 use Rattle.proto_safety.proofs.FlowInduction.{step_same}
 use Rattle.proto_safety.proofs.HeldRings.{Waits, waits_there, waits_longer, waits_last, waits_pushed, waits_forgotten, entered, HeldWas, stays, gains, loses, given_up, step_held}
-use Rattle.proto_safety.proofs.RunSteps.{EventAt, event_at, ended, Onward, onward, at_between, CameTo, rests, steps, came_to}
+use Rattle.proto_safety.proofs.RunSteps.{event_at, ended, Onward, onward, at_between, CameTo, rests, steps, came_to}
 use Rattle.proto_safety.proofs.SlotFirsts.{has_leased}
-use Rattle.proto_safety.proofs.StraightStart.{Requested, requested, PutWaits, put_waits}
+use Rattle.proto_safety.proofs.StraightStart.{requested, put_waits}
 use Rattle.proto_safety.proofs.SwitchSends.{IsRequest}
 use Rattle.proto_safety.proofs.Tables.{same_some}
 

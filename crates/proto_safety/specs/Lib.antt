@@ -17,3 +17,4 @@ pub mod Changes
 pub mod SwitchTable
 pub mod StoreTable
 pub mod StoreSent
+pub mod NeededPremises
