@@ -34,7 +34,8 @@ use Rattle.proto_safety.proofs.SwitchSizes.{InputSized, switch_sized}
 use Rattle.proto_safety.proofs.StoreSizes.{message_sized, alarm_sized}
 use Rattle.proto_safety.proofs.WorldBooks.{some_left, still}
 use Rattle.proto_safety.proofs.EventCounts.{event_counts, events_count}
-use Rattle.proto_safety.proofs.NodeSizes.{RunningIn, which_run, same_running, advanced_which, each_becomes, each_range, below_each, numbers_below, advanced_each, advanced_stores, length_advanced, length_advanced_stores, length_without, some_in, ActSized, act_sized}
+use Rattle.proto_safety.proofs.FramesGrow.{length_advanced_switches, length_advanced_replicas}
+use Rattle.proto_safety.proofs.NodeSizes.{RunningIn, which_run, same_running, advanced_which, each_becomes, each_range, below_each, numbers_below, advanced_each, advanced_stores, length_without, some_in, ActSized, act_sized}
 
 -- ---- one event
 
@@ -191,7 +192,7 @@ module _ (app : Application) (is : IsApplication app) (few : app.cell_count ≤ 
 
   clocks_go : (by : List ℕ) → SizedAt (b + 1) app (advanced (next_event w) by)
   clocks_go by =
-      others (advanced_switches w.switches by) (advanced_replicas w.replicas (drop (length w.switches) by)) (length_advanced w.switches by) (length_advanced_stores w.replicas (drop (length w.switches) by))
+      others (advanced_switches w.switches by) (advanced_replicas w.replicas (drop (length w.switches) by)) (length_advanced_switches w.switches by) (length_advanced_replicas w.replicas (drop (length w.switches) by))
       (advanced_which w.replicas (drop (length w.switches) by))
       (advanced_each SwitchUp w.switches by up_switches) (advanced_stores ReplicaUp w.replicas (drop (length w.switches) by) up_replicas)
 
