@@ -12,6 +12,7 @@ use Rattle.proto_model.specs.SwitchRow.{switch_row}
 use Rattle.proto_model.specs.SwitchRows.{switch_step}
 use Rattle.proto_model.specs.SwitchState.{lapsed}
 use Rattle.proto_model.specs.ReplicaRows.{store_step, store_row}
+use Rattle.proto_model.specs.Handing.{hand, handed}
 use Rattle.proto_safety.specs.Frames.{Grows}
 use Rattle.proto_model.specs.World.{World, Setup, SwitchNode, ReplicaNode, running_switches, running_replicas, opened, below, open_switch_node, open_replica_node}
 use Rattle.proto_model.specs.Effects.{packet_fed, frame_passed}
@@ -47,6 +48,13 @@ node_grows : (app : Application) (w : World) (to : Node) (input : Input) → Gro
 node_grows app w (Node.Switch n) input = switch_grows app w n input (slice_get w.switches n)
 node_grows app w (Node.Replica n) input = replica_grows w n input (slice_get w.replicas n)
 node_grows app w Node.Master input = same w.frames
+
+handed_grows : (app : Application) (w : World) (i : ℕ) (o : Option Msg) → Grows w.frames (handed app w i o).0.frames
+handed_grows app w i None = same w.frames
+handed_grows app w i (Some m) = node_grows app (frame_passed w i) m.to (Input.Msg m)
+
+pub hand_grows : (app : Application) (w : World) (i : ℕ) → Grows w.frames (hand app w i).0.frames
+hand_grows app w i = handed_grows app w i (slice_get w.frames i)
 
 -- at most 8 switches and 5 replicas
 pub record FewNodes (w : World) : Type 0 where
@@ -87,12 +95,12 @@ event_grows app w e few = act_grows app (next_event w) (act_of app (next_event w
 abbrev pub SoManyNodes : ℕ → ℕ → World → Type 0
 SoManyNodes switches replicas w = (length w.switches ≡ switches) × (length w.replicas ≡ replicas)
 
-length_advanced_switches : (nodes : List SwitchNode) (by : List ℕ) → length (advanced_switches nodes by) ≡ length nodes
+pub length_advanced_switches : (nodes : List SwitchNode) (by : List ℕ) → length (advanced_switches nodes by) ≡ length nodes
 length_advanced_switches [] by = refl
 length_advanced_switches (n ∷ ns) [] = refl
 length_advanced_switches (n ∷ ns) (d ∷ ds) = omega (arith, length_advanced_switches ns ds)
 
-length_advanced_replicas : (nodes : List ReplicaNode) (by : List ℕ) → length (advanced_replicas nodes by) ≡ length nodes
+pub length_advanced_replicas : (nodes : List ReplicaNode) (by : List ℕ) → length (advanced_replicas nodes by) ≡ length nodes
 length_advanced_replicas [] by = refl
 length_advanced_replicas (n ∷ ns) [] = refl
 length_advanced_replicas (n ∷ ns) (d ∷ ds) = omega (arith, length_advanced_replicas ns ds)

@@ -135,3 +135,4 @@ pub mod NodeSizes
 pub mod WorldSizes
 pub mod EventCounts
 pub mod NodesSay
+pub mod LinkedSizes

@@ -78,16 +78,6 @@ advanced_stores P [] by h = tt
 advanced_stores P (x ∷ xs) [] h = h
 advanced_stores P (x ∷ xs) (d ∷ ds) h = (h.0, advanced_stores P xs ds h.1)
 
-pub length_advanced : (xs : List SwitchNode) (by : List ℕ) → length (advanced_switches xs by) ≡ length xs
-length_advanced [] by = refl
-length_advanced (x ∷ xs) [] = refl
-length_advanced (x ∷ xs) (d ∷ ds) = omega (arith, length_advanced xs ds)
-
-pub length_advanced_stores : (xs : List ReplicaNode) (by : List ℕ) → length (advanced_replicas xs by) ≡ length xs
-length_advanced_stores [] by = refl
-length_advanced_stores (x ∷ xs) [] = refl
-length_advanced_stores (x ∷ xs) (d ∷ ds) = omega (arith, length_advanced_stores xs ds)
-
 pub length_without : (chain : List ℕ) (n : ℕ) → length (without chain n) ≤ length chain
 length_without [] n = omega arith
 length_without (x ∷ xs) n = without_case (x == n) (length_without xs n)

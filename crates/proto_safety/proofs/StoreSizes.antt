@@ -3,7 +3,7 @@ use Rattle.std.proofs.Common.{◌≡◌, ℕ, ◌+◌, ◌-◌, ◌*◌, ◌≤�
 use Rattle.std.specs.Prelude.{◌==◌, ◌&&◌, if◌then◌else◌, is_some}
 use Rattle.std.specs.List.{list_all, concat}
 use Rattle.std.proofs.lemmas.Bool.{and_parts, and_from, lt-ltb, ltb-true, both_ways, false≢true}
-use Rattle.std.proofs.lemmas.List.{length-replicate}
+use Rattle.std.proofs.lemmas.List.{length-replicate, length-drop}
 use Rattle.proto_data.specs.declared.message.Msg.{Msg}
 use Rattle.proto_data.specs.declared.message.Body.{Body}
 use Rattle.proto_data.specs.declared.message.Entry.{Entry}
@@ -30,11 +30,6 @@ each_drop : {A : Type 0} (P : A → Type 0) (k : ℕ) (xs : List A) → Each P x
 each_drop P zero xs h = h
 each_drop P (suc k) [] h = tt
 each_drop P (suc k) (x ∷ xs) h = each_drop P k xs h.1
-
-length_drop : {A : Type 0} (k : ℕ) (xs : List A) → length (drop k xs) ≡ length xs - k
-length_drop zero xs = omega arith
-length_drop (suc k) [] = omega arith
-length_drop (suc k) (x ∷ xs) = omega (arith, length_drop k xs)
 
 drop_none : (k : ℕ) (xs : List Entry) → xs ≡ [] → drop k xs ≡ []
 drop_none zero [] h = refl
@@ -315,7 +310,7 @@ module _ (cells : ℕ) (few : cells ≤ 256) (n d now : ℕ) where
           cells_are = h.cells_are;
           config = g.config;
           applied = g.applied;
-          pending_behind = omega (arith, h.pending_behind, within, above, length_drop (index - s.known) s.pending);
+          pending_behind = omega (arith, h.pending_behind, within, above, length-drop (index - s.known) s.pending);
           none_at_tail = λ tail. drop_none (index - s.known) s.pending (h.none_at_tail tail);
           pending = each_drop (EntrySized (n + 1) d) (index - s.known) s.pending g.pending;
           records = g.records;

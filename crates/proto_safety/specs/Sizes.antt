@@ -165,14 +165,18 @@ pub record ReplicaSized (n d cells : ℕ) (r : Replica) : Type 0 where
 abbrev pub Running : World → ℕ → Type 0
 Running w a = (node : ReplicaNode) × ((slice_get w.replicas a ≡ Some node) × (node.runs ≡ true))
 
--- What every world of a run keeps to: no number is above that of the events so far and one. A running replica is in the
--- master's configuration, and one runs.
-pub record Sized (app : Application) (w : World) : Type 0 where
+-- No number in this world is above b, nor is that of its next event. A running replica is in the master's configuration, and one runs.
+pub record SizedAt (b : ℕ) (app : Application) (w : World) : Type 0 where
+  pub event : w.event < b
   pub switches_few : length w.switches ≤ 8
   pub replicas_few : length w.replicas ≤ 5
-  pub config : ConfigSized (w.event + 1) w.config
+  pub config : ConfigSized b w.config
   pub runs : (a : ℕ) × Running w a
   pub present : (a : ℕ) → Running w a → In w.config.chain a
-  pub switches : Each (λ (node : SwitchNode). SwitchSized (w.event + 1) app.cell_count w.terms node.state) w.switches
-  pub replicas : Each (λ (node : ReplicaNode). ReplicaSized (w.event + 1) (delta_room w.terms.mode app.cell_count) app.cell_count node.state) w.replicas
-  pub frames : Each (MsgSized (w.event + 1) (delta_room w.terms.mode app.cell_count)) w.frames
+  pub switches : Each (λ (node : SwitchNode). SwitchSized b app.cell_count w.terms node.state) w.switches
+  pub replicas : Each (λ (node : ReplicaNode). ReplicaSized b (delta_room w.terms.mode app.cell_count) app.cell_count node.state) w.replicas
+  pub frames : Each (MsgSized b (delta_room w.terms.mode app.cell_count)) w.frames
+
+-- What every world of a run without a link keeps to: each event raises numbers by one at most.
+abbrev pub Sized : Application → World → Type 0
+Sized app w = SizedAt (w.event + 1) app w

@@ -1,15 +1,18 @@
 //! Limits of what is sent: each message that a node of a run sends has a spelling.
 
-ghost use Rattle.std.specs.Prelude.{◌≡◌, ◌≤◌, List, length, true, ℕ};
+ghost use Rattle.std.specs.Prelude.{◌≡◌, ◌+◌, ◌≤◌, List, length, true, ℕ};
 ghost use Rattle.proto_data.specs.MessageFits.{message_fits};
 ghost use Rattle.proto_data.specs.declared.message.Msg.{Msg};
 ghost use Rattle.proto_data.specs.declared.terms.Mode.{Mode};
 ghost use Rattle.rp_base.specs.declared.event.Event.{Event};
 ghost use Rattle.rp_app.specs.Application.{Application, IsApplication};
 ghost use Rattle.proto_model.specs.Feeds.{Each};
+ghost use Rattle.proto_model.specs.Handing.{hand};
+ghost use Rattle.proto_model.specs.Pumping.{Received, linked_run};
 ghost use Rattle.proto_model.specs.World.{Setup, World, opened};
 ghost use Rattle.proto_model.specs.WorldStep.{world_after, world_step};
-ghost use Rattle.proto_safety.specs.Sizes.{EventSized, MsgSized, Sized};
+ghost use Rattle.proto_safety.specs.Frames.{Grows};
+ghost use Rattle.proto_safety.specs.Sizes.{EventSized, MsgSized, Sized, SizedAt};
 
 /// A run opens with nothing larger than its limits: at most 8 switches, and 1 to 5 replicas.
 pub fn opened_worlds_are_sized()
@@ -28,7 +31,7 @@ pub fn sized_frames_fit()
 {}
 
 /// How short frames are: a key has at most 16 bytes, what rides along at most 1,500, a list of cells at most 256 members, a
-/// delta at most 32 where the flows of strict runs have at most 32 cells, and numbers stay below 4,000,000,001.
+/// delta at most 32 where the flows of strict runs have at most 32 cells, and a number is at most 4,000,000,001.
 pub fn sized_frames_are_short()
     ensures { (app : Application) (w : World) → w.event ≤ 4000000000 → (w.terms.mode ≡ Mode.Strict → app.cell_count ≤ 32) → Sized app w → Each (MsgSized 4000000001 32) w.frames }
 {}
@@ -38,4 +41,23 @@ pub fn messages_fit()
     ensures { (app : Application) → IsApplication app → app.cell_count ≤ 256 → (setup : Setup) → setup.switches ≤ 8 → 1 ≤ setup.replicas → setup.replicas ≤ 5 →
         (events : List Event) → Each EventSized events → length events ≤ 4000000000 →
         Each (λ (m : Msg). message_fits m ≡ true) (world_after app (opened app.cell_count setup) events).frames }
+{}
+
+/// Each message of a run over a link has a spelling, whatever the link gives: a run takes one turn an event, and one more for
+/// each answer of the link.
+pub fn linked_messages_fit()
+    ensures { (spelled : Msg → List ℕ) (app : Application) → IsApplication app → app.cell_count ≤ 256 → (setup : Setup) → setup.switches ≤ 8 → 1 ≤ setup.replicas → setup.replicas ≤ 5 →
+        (events : List Event) (received : List Received) → Each EventSized events → length events + length received ≤ 4000000000 →
+        Each (λ (m : Msg). message_fits m ≡ true) (linked_run spelled app setup events received).world.frames }
+{}
+
+/// A turn raises each number by one at most: an event, or the delivery of a frame within one.
+pub fn turns_keep_sizes()
+    ensures events { (app : Application) → IsApplication app → app.cell_count ≤ 256 → (w : World) (b : ℕ) (event : Event) → EventSized event → SizedAt b app w → SizedAt (b + 1) app (world_step app w event).0 }
+    ensures hands { (app : Application) → IsApplication app → app.cell_count ≤ 256 → (w : World) (b i : ℕ) → SizedAt b app w → SizedAt (b + 1) app (hand app w i).0 }
+{}
+
+/// The delivery of a frame within an event sends at most 64 messages, as an event does.
+pub fn hand_overs_send_few()
+    ensures { (app : Application) (w : World) (i : ℕ) → Grows w.frames (hand app w i).0.frames }
 {}
