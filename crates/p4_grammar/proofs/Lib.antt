@@ -3,3 +3,4 @@ pub mod Languages
 pub mod Basics
 pub mod Facts
 pub mod Expressions
+pub mod Operands
