@@ -4,3 +4,4 @@ pub mod Basics
 pub mod Facts
 pub mod Expressions
 pub mod Operands
+pub mod Levels
