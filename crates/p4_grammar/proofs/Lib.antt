@@ -5,3 +5,4 @@ pub mod Facts
 pub mod Expressions
 pub mod Operands
 pub mod Levels
+pub mod Called
