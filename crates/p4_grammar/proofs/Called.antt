@@ -20,7 +20,7 @@ text_is text other at x e = yes (bytes_eq other text) at x e where
   yes true at x e = refl
   yes false at x e = absurd cc
 
-name_there : (text : List ℕ) (at x : ℕ) (l : Lexeme) → text_of text at l ≡ Ok x → (y : P4Name) × (name_of at l ≡ Ok y) × (bytes_eq y.text text ≡ true)
+pub name_there : (text : List ℕ) (at x : ℕ) (l : Lexeme) → text_of text at l ≡ Ok x → (y : P4Name) × (name_of at l ≡ Ok y) × (bytes_eq y.text text ≡ true)
 name_there text at x (lexeme.Name other) e = (record { at = at; text = other }, refl, text_is text other at x e)
 name_there text at x (lexeme.Sign s) e = absurd cc
 name_there text at x (lexeme.Number v w) e = absurd cc
@@ -35,7 +35,7 @@ ok_name x = Ok x
 same_name : (x y : P4Name) → ok_name x ≡ ok_name y → x ≡ y
 same_name x y e = cc
 
-name_back : (text : List ℕ) (at : ℕ) (y : P4Name) (l : Lexeme) → name_of at l ≡ Ok y → bytes_eq y.text text ≡ true → text_of text at l ≡ Ok at
+pub name_back : (text : List ℕ) (at : ℕ) (y : P4Name) (l : Lexeme) → name_of at l ≡ Ok y → bytes_eq y.text text ≡ true → text_of text at l ≡ Ok at
 name_back text at y (lexeme.Name other) e h = tested_at (bytes_eq other text) at (subst (λ (q : P4Name). bytes_eq q.text text ≡ true) (sym (same_name (record { at = at; text = other }) y e)) h)
 name_back text at y (lexeme.Sign s) e h = absurd cc
 name_back text at y (lexeme.Number v w) e h = absurd cc

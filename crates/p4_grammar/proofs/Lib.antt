@@ -6,3 +6,4 @@ pub mod Expressions
 pub mod Operands
 pub mod Levels
 pub mod Called
+pub mod Alone
