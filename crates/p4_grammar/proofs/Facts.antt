@@ -15,7 +15,8 @@ use Rattle.p4_grammar.specs.declared.mark.Spelled.{Spelled}
 use Rattle.p4_grammar.specs.declared.mark.ChainOp.{ChainOp}
 use Rattle.p4_grammar.specs.declared.mark.ChainOp.TheVariants as chains
 use Rattle.p4_grammar.specs.Forms.{is_given}
-use Rattle.p4_grammar.specs.Tokens.{is, sign_of, in_hand}
+use Rattle.p4_grammar.specs.Tokens.{test, is, sign_of, in_hand}
+use Rattle.p4_grammar.proofs.Basics.{tok, by_sign}
 use Rattle.p4_grammar.specs.Values.{later, of_cast, is_bare, begins_lexeme, begins_operand, sum_lexeme, sum_op, chain_lexeme, chain_op, compare_lexeme, compare_op, unary_lexeme, unary_op, this, again, joined, op_sign}
 
 -- the level of operators at which a sign goes on
@@ -65,7 +66,7 @@ goes_on i b r (lexeme.Sign s) = cond (nat_le (level s) i) true (cond b (begins_l
 abbrev pub V : ℕ → Spelled → Token → Bool
 V i x a = goes_on i (is_bare x.mark) (is_read x.mark) a.lexeme
 
-never : (b : Bool) → cond b false false ≡ false
+pub never : (b : Bool) → cond b false false ≡ false
 never true = refl
 never false = refl
 
@@ -303,3 +304,53 @@ chain_true chains.BitXor b r = refl
 chain_true chains.ShiftLeft b r = refl
 chain_true chains.ShiftRight b r = refl
 chain_true chains.Concat b r = refl
+
+given_is : {A : Type 0} (r : Result A (Unit {0})) → is_given r ≡ true → (x : A) × (r ≡ Ok x)
+given_is (Ok x) e = (x, refl)
+given_is (Err e) g = absurd cc
+
+test_true : {A : Type 0} (b : Bool) (x y : A) → test b x ≡ Ok y → b ≡ true
+test_true true x y e = refl
+test_true false x y e = absurd cc
+
+-- what holds of each token of this sign holds of the token in hand, where its test gives a value
+pub tested : {A : Type 0} {b : Bool} (t : Token → Bool) (s : Sign) → ((at e : ℕ) → t (tok at e (lexeme.Sign s)) ≡ b) → (a : Token) (x y : A) → test (in_hand s a) x ≡ Ok y → t a ≡ b
+tested t s h a x y e = let g = given_is (is s a) (test_true (in_hand s a) x y e) in by_sign t s h a g.0 g.1
+
+untested : {A : Type 0} (b : Bool) (x : A) → b ≡ false → is_given (test b x) ≡ false
+untested true x e = absurd cc
+untested false x e = refl
+
+by_bool : (b : Bool) → (b ≡ true → ⊥) → b ≡ false
+by_bool true h = absurd (h refl)
+by_bool false h = refl
+
+-- a token that a test of all tokens of this sign passes by isn't one
+pub not_in_hand : (t : Token → Bool) (s : Sign) → ((at e : ℕ) → t (tok at e (lexeme.Sign s)) ≡ true) → (a : Token) → t a ≡ false → in_hand s a ≡ false
+not_in_hand t s h a e = by_bool (in_hand s a) (λ yes. let g = given_is (is s a) yes in let q : true ≡ false = sym (by_sign t s h a g.0 g.1) ∙ e in absurd cc)
+
+pub stopped : {A : Type 0} (t : Token → Bool) (s : Sign) → ((at e : ℕ) → t (tok at e (lexeme.Sign s)) ≡ true) → (a : Token) (x : A) → t a ≡ false → is_given (test (in_hand s a) x) ≡ false
+stopped t s h a x e = untested (in_hand s a) x (not_in_hand t s h a e)
+
+-- ---- the same operator again
+
+pub again_goes : (o p : ChainOp) (b r : Bool) (a : Token) → again o a ≡ Ok p → goes_on 0 b r a.lexeme ≡ false
+again_goes o p b r a e = tested (λ t. goes_on 0 b r t.lexeme) (op_sign (joined o)) (λ at i. chain_level o b r) a o p e
+
+pub again_stops : (o : ChainOp) (b r : Bool) (a : Token) → goes_on 2 b r a.lexeme ≡ false → is_given (again o a) ≡ false
+again_stops o b r a e = stopped (λ t. goes_on 2 b r t.lexeme) (op_sign (joined o)) (λ at i. chain_true o b r) a o e
+
+pub and_goes : (b r : Bool) (a : Token) (o : P4BinaryOp) → this binary_op.And a ≡ Ok o → goes_on 2 b r a.lexeme ≡ false
+and_goes b r a o e = tested (λ t. goes_on 2 b r t.lexeme) sign.And (λ at i. never b) a binary_op.And o e
+
+pub and_stops : (b r : Bool) (a : Token) → goes_on 3 b r a.lexeme ≡ false → is_given (this binary_op.And a) ≡ false
+and_stops b r a e = stopped (λ t. goes_on 3 b r t.lexeme) sign.And (λ at i. refl) a binary_op.And e
+
+pub or_goes : (b r : Bool) (a : Token) (o : P4BinaryOp) → this binary_op.Or a ≡ Ok o → goes_on 3 b r a.lexeme ≡ false
+or_goes b r a o e = tested (λ t. goes_on 3 b r t.lexeme) sign.Or (λ at i. never b) a binary_op.Or o e
+
+pub or_stops : (b r : Bool) (a : Token) → goes_on 4 b r a.lexeme ≡ false → is_given (this binary_op.Or a) ≡ false
+or_stops b r a e = stopped (λ t. goes_on 4 b r t.lexeme) sign.Or (λ at i. refl) a binary_op.Or e
+
+pub ask_stops : (b r : Bool) (a : Token) → goes_on 5 b r a.lexeme ≡ false → in_hand sign.Ask a ≡ false
+ask_stops b r a e = not_in_hand (λ t. goes_on 5 b r t.lexeme) sign.Ask (λ at i. refl) a e
