@@ -1,4 +1,5 @@
 -- Under what an event comes to an act.
+pub use Rattle.proto_safety.specs.Changes.{Fits}
 use Rattle.std.proofs.Common.{◌≡◌, ℕ, ◌+◌, List, [], ◌∷◌, ◌++◌, length, Option, Some, None, arith, refl, slice_get, true, false, Bool, not, ◌&&◌, nat_le, option_map, append_assoc, length-append, length-take, ◌∙◌}
 use Rattle.std.proofs.lemmas.List.{length-replicate}
 use Rattle.std.proofs.lemmas.Bool.{not-false, and_parts}
@@ -12,20 +13,6 @@ use Rattle.rp_app.specs.Application.{Application, zeros}
 use Rattle.proto_model.specs.Routing.{picked}
 use Rattle.proto_model.specs.World.{World, believed_switches, running_replicas}
 use Rattle.proto_model.specs.WorldStep.{Act, Refuses, Feeds, Delivers, Passes, Advances, Alarms, Stops, Boots, Detects, Announces, Pumps, act_of, refuses_if, feed_at, feed_picked, packet_at, deliver_act, next_act, numbered_frame, next_from, is_next, runs_now, believed_up, frames_full, rates_hold, padded, is_replica}
-
--- what an act may rely on
-abbrev pub Fits : World → Act → Type 0
-Fits w (Refuses cause) = Unit {0}
-Fits w (Feeds n p) = (p.mark ≡ w.event) × (runs_now w (Node.Switch n) ≡ true)
-Fits w (Delivers i m) = (slice_get w.frames i ≡ Some m) × (runs_now w m.to ≡ true)
-Fits w (Passes i) = Unit {0}
-Fits w (Advances by) = (rates_hold by w.terms.ratio ≡ true) × (length by ≡ length w.switches + length w.replicas)
-Fits w (Alarms node) = runs_now w node ≡ true
-Fits w (Stops node) = (runs_now w node ≡ true) × ((is_replica node && nat_le (length (running_replicas w)) 1) ≡ false)
-Fits w (Boots n) = runs_now w (Node.Switch n) ≡ false
-Fits w (Detects node) = ((runs_now w node && believed_up w node) ≡ false) × ((not (runs_now w node) && not (believed_up w node)) ≡ false)
-Fits w Announces = Unit {0}
-Fits w Pumps = Unit {0}
 
 -- an act behind a test: the test failed
 passed_test : (w : World) (b : Bool) (cause : Refusal) (act : Act) → (b ≡ false → Fits w act) → Fits w (refuses_if b cause act)

@@ -1,4 +1,5 @@
 -- What holds at the start and is kept by each way in which the world changes holds after every list of events.
+pub use Rattle.proto_safety.specs.Changes.{Comes, with_fed, Keeps, KeepsGiven}
 use Rattle.std.proofs.Common.{◌≡◌, ℕ, ◌+◌, List, [], ◌∷◌, Option, Some, None, refl, slice_get, true}
 use Rattle.std.proofs.lemmas.Bool.{false≢true}
 use Rattle.rp_base.specs.declared.node.Node.{Node}
@@ -11,60 +12,8 @@ use Rattle.proto_model.specs.ReplicaRows.{store_step}
 use Rattle.proto_model.specs.World.{World, SwitchNode, ReplicaNode}
 use Rattle.proto_model.specs.Effects.{switch_moved, replica_moved, packet_fed, frame_passed, master_sent}
 use Rattle.proto_model.specs.WorldStep.{Act, Refuses, Feeds, Delivers, Passes, Advances, Alarms, Stops, Boots, Detects, Announces, Pumps, act_of, perform_act, node_takes, switch_takes, replica_takes, runs_now, runs_at_switch, runs_at_replica, stopped, booted, detected, advanced, announcements, next_event, world_step, world_after}
-use Rattle.proto_safety.proofs.Acts.{Fits, act_fits}
-
--- where an input comes from: a frame that was sent to this node, or nowhere. A packet comes at its own event alone
-abbrev pub Comes : World → Node → Input → Type 0
-Comes w to (Input.Packet p) = ⊥
-Comes w to (Input.Msg m) = (m.to ≡ to) × ((i : ℕ) × (slice_get w.frames i ≡ Some m))
-Comes w to Input.Alarm = Unit {0}
-
--- the world in which a packet is fed, before its switch takes it
-abbrev pub with_fed : World → Packet → World
-with_fed w p = packet_fed (next_event w) p
-
--- Each way in which the world changes keeps I. An event first counts, then acts; a feed is one change with its switch's step,
--- so that the packet's mark is new in the world that I is known of.
-pub record Keeps (app : Application) (I : World → Type 0) : Type 0 where
-  pub counts : (w : World) → I w → I (next_event w)
-  pub passes : (w : World) (i : ℕ) → I w → I (frame_passed w i)
-  pub feeds :
-      (w : World) (n : ℕ) (node : SwitchNode) (p : Packet) → slice_get w.switches n ≡ Some node → node.runs ≡ true → p.mark ≡ w.event + 1 →
-      I w → I (switch_moved (with_fed w p) n node (switch_step app node.state node.clock (Input.Packet p)))
-  pub switches :
-      (w : World) (n : ℕ) (node : SwitchNode) (input : Input) → slice_get w.switches n ≡ Some node → node.runs ≡ true →
-      Comes w (Node.Switch n) input → I w → I (switch_moved w n node (switch_step app node.state node.clock input))
-  pub replicas :
-      (w : World) (n : ℕ) (node : ReplicaNode) (input : Input) → slice_get w.replicas n ≡ Some node → node.runs ≡ true →
-      Comes w (Node.Replica n) input → I w → I (replica_moved w n node (store_step node.state node.clock input))
-  pub advances : (w : World) (by : List ℕ) → Fits w (Advances by) → I w → I (advanced w by)
-  pub stops_switch : (w : World) (n : ℕ) → Fits w (Stops (Node.Switch n)) → I w → I (stopped w (Node.Switch n))
-  pub stops_replica : (w : World) (n : ℕ) → Fits w (Stops (Node.Replica n)) → I w → I (stopped w (Node.Replica n))
-  pub boots : (w : World) (n : ℕ) → Fits w (Boots n) → I w → I (booted w n)
-  pub detects_switch : (w : World) (n : ℕ) → Fits w (Detects (Node.Switch n)) → I w → I (detected w (Node.Switch n))
-  pub detects_replica : (w : World) (n : ℕ) → Fits w (Detects (Node.Replica n)) → I w → I (detected w (Node.Replica n))
-  pub announces : (w : World) → I w → I (master_sent w (announcements w))
-
--- the same of J, where I is known to hold before
-pub record KeepsGiven (app : Application) (I J : World → Type 0) : Type 0 where
-  pub counts : (w : World) → I w → J w → J (next_event w)
-  pub passes : (w : World) (i : ℕ) → I w → J w → J (frame_passed w i)
-  pub feeds :
-      (w : World) (n : ℕ) (node : SwitchNode) (p : Packet) → slice_get w.switches n ≡ Some node → node.runs ≡ true → p.mark ≡ w.event + 1 →
-      I w → J w → J (switch_moved (with_fed w p) n node (switch_step app node.state node.clock (Input.Packet p)))
-  pub switches :
-      (w : World) (n : ℕ) (node : SwitchNode) (input : Input) → slice_get w.switches n ≡ Some node → node.runs ≡ true →
-      Comes w (Node.Switch n) input → I w → J w → J (switch_moved w n node (switch_step app node.state node.clock input))
-  pub replicas :
-      (w : World) (n : ℕ) (node : ReplicaNode) (input : Input) → slice_get w.replicas n ≡ Some node → node.runs ≡ true →
-      Comes w (Node.Replica n) input → I w → J w → J (replica_moved w n node (store_step node.state node.clock input))
-  pub advances : (w : World) (by : List ℕ) → Fits w (Advances by) → I w → J w → J (advanced w by)
-  pub stops_switch : (w : World) (n : ℕ) → Fits w (Stops (Node.Switch n)) → I w → J w → J (stopped w (Node.Switch n))
-  pub stops_replica : (w : World) (n : ℕ) → Fits w (Stops (Node.Replica n)) → I w → J w → J (stopped w (Node.Replica n))
-  pub boots : (w : World) (n : ℕ) → Fits w (Boots n) → I w → J w → J (booted w n)
-  pub detects_switch : (w : World) (n : ℕ) → Fits w (Detects (Node.Switch n)) → I w → J w → J (detected w (Node.Switch n))
-  pub detects_replica : (w : World) (n : ℕ) → Fits w (Detects (Node.Replica n)) → I w → J w → J (detected w (Node.Replica n))
-  pub announces : (w : World) → I w → J w → J (master_sent w (announcements w))
+use Rattle.proto_safety.specs.Changes.{Fits}
+use Rattle.proto_safety.proofs.Acts.{act_fits}
 
 -- of two facts that say the same one is kept where the other is
 pub keeps_same : (app : Application) (I J : World → Type 0) → ((w : World) → I w → J w) → ((w : World) → J w → I w) → Keeps app I → Keeps app J

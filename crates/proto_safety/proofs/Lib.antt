@@ -117,3 +117,10 @@ pub mod SerialOnce
 pub mod SizesUp
 pub mod SizesFit
 pub mod SizesOf
+pub mod AlarmSizes
+pub mod SwitchSizes
+pub mod StoreSizes
+pub mod NodeSizes
+pub mod WorldSizes
+pub mod EventCounts
+pub mod NodesSay

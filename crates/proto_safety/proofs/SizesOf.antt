@@ -1,10 +1,9 @@
 -- Sizes in tables, chains and deltas.
-use Rattle.std.proofs.Common.{◌≡◌, ℕ, ◌+◌, ◌≤◌, ◌<◌, ◌*◌, List, [], ◌∷◌, length, Option, Some, None, arith, refl, true, false, Bool, subst, cond, filter, inl, inr, sym, ap}
-use Rattle.std.specs.Prelude.{◌&&◌, ◌==◌, ◌/◌, max, not, nat_lt, if◌then◌else◌}
+use Rattle.std.proofs.Common.{◌≡◌, ℕ, ◌+◌, ◌≤◌, ◌<◌, List, [], ◌∷◌, length, Some, arith, refl, true, false, Bool, subst, inl, inr}
+use Rattle.std.specs.Prelude.{◌==◌, if◌then◌else◌}
 use Rattle.std.specs.List.{All}
 use Rattle.std.proofs.lemmas.Bool.{and_parts, lt-ltb, ltb-true}
 use Rattle.std.proofs.lemmas.List.Elements.{All-head, All-tail, All-nil}
-use Rattle.rp_base.specs.declared.node.Node.{Node}
 use Rattle.proto_data.specs.MessageFits.{is_store}
 use Rattle.rp_app.specs.Application.{Delta, IsDelta, rising, cells_named}
 use Rattle.proto_model.specs.Feeds.{Each}

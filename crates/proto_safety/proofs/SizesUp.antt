@@ -1,5 +1,5 @@
 -- What is sized by a number is sized by a greater one.
-use Rattle.std.proofs.Common.{ℕ, ◌≤◌, List, [], ◌∷◌, Option, Some, None, arith}
+use Rattle.std.proofs.Common.{ℕ, ◌≤◌, List, Option, Some, None, arith}
 use Rattle.proto_data.specs.declared.message.Msg.{Msg}
 use Rattle.proto_data.specs.declared.message.Body.{Body}
 use Rattle.proto_data.specs.declared.message.Entry.{Entry}
@@ -7,15 +7,13 @@ use Rattle.proto_data.specs.declared.message.Echoed.{Echoed}
 use Rattle.proto_data.specs.declared.message.Record.{Record}
 use Rattle.proto_data.specs.declared.message.Carried.{Carried}
 use Rattle.proto_data.specs.declared.message.Config.{Config}
-use Rattle.proto_data.specs.declared.message.Input.{Input}
 use Rattle.proto_data.specs.declared.terms.Terms.{Terms}
-use Rattle.proto_model.specs.Feeds.{Each}
-use Rattle.proto_model.specs.Table.{Key, Table}
+use Rattle.proto_model.specs.Table.{Key}
 use Rattle.proto_model.specs.Slot.{Slot, Lease, Round, Idle, Asking, Held, Lapsed}
 use Rattle.proto_model.specs.SwitchState.{Switch, Copy}
 use Rattle.proto_model.specs.ReplicaState.{Replica}
-use Rattle.proto_model.specs.World.{SwitchNode, ReplicaNode}
-use Rattle.proto_safety.specs.Sizes.{LoadSized, MarkSized, EntrySized, EchoedSized, ConfigSized, BodySized, MsgSized, LeaseSized, RoundSized, SlotSized, CopySized, SwitchSized, RecordSized, ReplicaSized}
+use Rattle.rp_app.specs.Application.{Delta}
+use Rattle.proto_safety.specs.Sizes.{DeltaSized, LoadSized, MarkSized, EntrySized, EchoedSized, ConfigSized, BodySized, MsgSized, LeaseSized, RoundSized, SlotSized, CopySized, SwitchSized, RecordSized, ReplicaSized}
 use Rattle.proto_safety.proofs.Lists.{each_weaker}
 
 module _ (n m : ℕ) (le : n ≤ m) where
@@ -108,3 +106,30 @@ module _ (n m : ℕ) (le : n ≤ m) where
         records = each_weaker _ _ r.records (λ e k. record_up e.0 e.1 k) h.records;
         gathered = h.gathered;
       }
+
+-- ---- deltas of more cells
+
+module _ (n d e : ℕ) (le : d ≤ e) where
+  delta_wider : (delta : Delta) → DeltaSized d delta → DeltaSized e delta
+  delta_wider delta h = (h.0, omega (arith, h.1))
+
+  entry_wider : (x : Entry) → EntrySized n d x → EntrySized n e x
+  entry_wider (Entry.Grant key epoch switch inc nonce) h = h
+  entry_wider (Entry.Put key epoch number delta) h = (h.0, h.1, h.2, delta_wider delta h.3)
+  entry_wider (Entry.Snap key epoch round cells) h = h
+
+  body_wider : (body : Body) → BodySized n d body → BodySized n e body
+  body_wider (Body.Put inc epoch number key delta load) h = (h.0, h.1, h.2, h.3, delta_wider delta h.4, h.5)
+  body_wider (Body.Forward config index entry load) h = (h.0, h.1, entry_wider entry h.2, h.3)
+  body_wider (Body.Ask inc nonce key load) h = h
+  body_wider (Body.Grant inc nonce epoch key cells load) h = h
+  body_wider (Body.Busy inc nonce key mark) h = h
+  body_wider (Body.Ack inc epoch upto key load) h = h
+  body_wider (Body.Deny inc epoch key) h = h
+  body_wider (Body.Have index) h = h
+  body_wider (Body.Echo of load) h = h
+  body_wider (Body.Config config) h = h
+  body_wider (Body.Snap inc epoch round key chunk chunks cells) h = h
+
+  pub msg_wider : (x : Msg) → MsgSized n d x → MsgSized n e x
+  msg_wider x h = (h.0, body_wider x.body h.1)

@@ -1,4 +1,5 @@
 -- What a replica's step does to its configuration, its book, its known commit and what it sends.
+pub use Rattle.proto_safety.specs.StoreSent.{SentBooks}
 use Rattle.std.proofs.Common.{◌≡◌, ℕ, ◌+◌, ◌-◌, ◌≤◌, ◌<◌, List, [], ◌∷◌, ◌++◌, length, Option, Some, None, arith, refl, sym, ap, ◌∙◌, subst, eqb-true, append-nil, take, drop, true, false, Bool, append_assoc, length-append, length-take, nat_le}
 use Rattle.std.proofs.lemmas.List.{take-append-drop}
 use Rattle.std.specs.Prelude.{nat_lt}
@@ -154,17 +155,6 @@ row_known s now _ = as_before refl
 
 -- ---- what it sends
 
--- what the sender itself knows of a frame
-abbrev pub SentBooks : Replica → List Entry → Node → Node → Body → Type 0
-SentBooks r entries from to (Body.Forward config index entry load) =
-    (from ≡ Node.Replica r.me) × (config ≡ r.config.number) × ToReplica (λ b. successor_of r.config.chain r.me ≡ Some b) to × EntryAt entries index entry
-SentBooks r entries from to (Body.Have index) = index ≤ r.known
-SentBooks r entries from to (Body.Config config) = ⊥
-SentBooks r entries from to (Body.Ask inc nonce key load) = ⊥
-SentBooks r entries from to (Body.Put inc epoch number key delta load) = ⊥
-SentBooks r entries from to (Body.Snap inc epoch round key chunk chunks cells) = ⊥
-SentBooks r entries from to _ = Unit {0}
-
 abbrev pub Sent : Replica → List Entry → List Msg → Type 0
 Sent r entries ms = Each (λ (m : Msg). SentBooks r entries m.from m.to m.body) ms
 
@@ -179,7 +169,7 @@ answer_sent r s entries (Entry.Put key epoch number delta) load (Some x) = (tt, 
 answer_sent r s entries (Entry.Snap key epoch round cells) load (Some x) = (tt, tt)
 
 -- the step's messages, over the book that it leaves
-abbrev StepSent : List Booked → ℕ → ℕ → StoreStep → Type 0
+abbrev pub StepSent : List Booked → ℕ → ℕ → StoreStep → Type 0
 StepSent book now event step = Sent step.0 (entries_of (book_after now event book step.1.applied)) step.1.sent
 
 pushed_at : (book : List Booked) (b : Booked) (place : ℕ) → place ≡ length book + 1 → EntryAt (entries_of (book ++ b ∷ [])) place b.entry

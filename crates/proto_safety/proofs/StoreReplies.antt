@@ -1,4 +1,5 @@
 -- A replica answers a switch as the tail of its configuration alone, with what its own book says.
+pub use Rattle.proto_safety.specs.StoreSent.{SentReply}
 use Rattle.std.proofs.Common.{◌≡◌, ℕ, ◌-◌, drop, ◌+◌, List, [], ◌∷◌, ◌++◌, length, Option, Some, None, arith, refl, sym, ap, ◌∙◌, take, true, false, Bool, append-nil, nat_le, eqb-true}
 use Rattle.std.specs.Prelude.{nat_lt, option_map}
 use Rattle.std.proofs.lemmas.Bool.{and_parts}
@@ -22,12 +23,6 @@ use Rattle.proto_safety.proofs.StoreStands.{book_after, StepStands, step_stands,
 use Rattle.proto_safety.proofs.FlowBooks.{stands_flow, in_last, last_numbered, numbered_put, numbered_snap}
 use Rattle.proto_safety.proofs.Tables.{get-put_same, same_some, same_key-refl}
 use Rattle.proto_safety.proofs.Lists.{each_append, each_if}
-
--- an answer to a switch comes of the tail, and says what this book says
-abbrev pub SentReply : Replica → List Entry → Node → Body → Type 0
-SentReply r es to (Body.Grant inc nonce epoch key cells load) = (is_tail r ≡ true) × ToSwitch (λ s. GrantedNow r.cell_count es s inc nonce epoch key cells) to
-SentReply r es to (Body.Ack inc epoch upto key load) = (is_tail r ≡ true) × AckedIn es epoch upto key
-SentReply r es to _ = Unit {0}
 
 abbrev pub Replies : Replica → List Entry → List Msg → Type 0
 Replies r es ms = Each (λ (m : Msg). SentReply r es m.to m.body) ms

@@ -78,7 +78,7 @@ abbrev after_stop : List ReplicaNode → ℕ → List ReplicaNode
 after_stop nodes n = changed_at nodes n (λ (r : ReplicaNode). record r { runs = false })
 
 -- who runs after the stop is another, and ran
-still : (nodes : List ReplicaNode) (n m : ℕ) (node : ReplicaNode) → slice_get (after_stop nodes n) m ≡ Some node → lives node ≡ true → (m ≢ n) × (slice_get nodes m ≡ Some node)
+pub still : (nodes : List ReplicaNode) (n m : ℕ) (node : ReplicaNode) → slice_get (after_stop nodes n) m ≡ Some node → lives node ≡ true → (m ≢ n) × (slice_get nodes m ≡ Some node)
 still nodes n m node at up = still_case (at_changed nodes n m (λ (r : ReplicaNode). record r { runs = false }) node at)
   where
     still_case : ((m ≡ n) × ((x : ReplicaNode) × ((slice_get nodes m ≡ Some x) × (node ≡ record x { runs = false })))) ⊎ ((m ≢ n) × (slice_get nodes m ≡ Some node)) → (m ≢ n) × (slice_get nodes m ≡ Some node)
@@ -131,7 +131,7 @@ stopped_nodes confs nodes n l h m node at = node_case (at_changed nodes n m (λ 
     node_case (inr p) = node_later confs nodes (after_stop nodes n) m node l (h m node p.1)
 
 -- the last running one may not stop
-some_left : (w : World) (n : ℕ) → Fits w (Stops (Node.Replica n)) → NoneLives (after_stop w.replicas n) → ⊥
+pub some_left : (w : World) (n : ℕ) → Fits w (Stops (Node.Replica n)) → NoneLives (after_stop w.replicas n) → ⊥
 some_left w n fits none = let few = few_ran w.replicas n 0 none in let many = leb-false (length (running_replicas w)) 1 fits.1 in absurd (omega arith)
 
 stopped_hold : (confs : List Config) (w : World) (n : ℕ) → Fits w (Stops (Node.Replica n)) → Books confs w → Books confs (record w { replicas = after_stop w.replicas n })

@@ -13,3 +13,7 @@ pub mod SwitchSent
 pub mod Origins
 pub mod Frames
 pub mod Sizes
+pub mod Changes
+pub mod SwitchTable
+pub mod StoreTable
+pub mod StoreSent

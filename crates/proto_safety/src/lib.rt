@@ -5,10 +5,13 @@
 #![tactic(auto)]
 
 pub mod books;
+pub mod changes;
 pub mod first_facts;
 pub mod lease_basis;
 pub mod legal;
 pub mod marks;
 pub mod replies;
 pub mod requests;
+pub mod rows;
+pub mod sizes;
 pub mod worked_rows;

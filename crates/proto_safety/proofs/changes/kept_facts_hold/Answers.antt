@@ -1,0 +1,5 @@
+use Rattle.proto_safety.proofs.Induction.{run_kept}
+use Rattle.proto_safety.proofs.changes.kept_facts_hold.Goals as goal
+
+pub returns : goal.returns
+returns g c = λ app k events w h. run_kept app g.I.Fact.holds k events w h

@@ -1,0 +1,5 @@
+use Rattle.proto_safety.proofs.WorldSizes.{event_sized}
+use Rattle.proto_safety.proofs.sizes.events_keep_sizes.Goals as goal
+
+pub returns : goal.returns
+returns c = event_sized

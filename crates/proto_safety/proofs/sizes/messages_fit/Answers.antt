@@ -1,0 +1,5 @@
+use Rattle.proto_safety.proofs.WorldSizes.{run_fits}
+use Rattle.proto_safety.proofs.sizes.messages_fit.Goals as goal
+
+pub returns : goal.returns
+returns c = run_fits

@@ -1,0 +1,5 @@
+use Rattle.proto_safety.proofs.WorldSizes.{sized_short}
+use Rattle.proto_safety.proofs.sizes.sized_frames_are_short.Goals as goal
+
+pub returns : goal.returns
+returns c = sized_short

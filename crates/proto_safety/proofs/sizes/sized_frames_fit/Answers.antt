@@ -1,0 +1,5 @@
+use Rattle.proto_safety.proofs.WorldSizes.{sized_fits}
+use Rattle.proto_safety.proofs.sizes.sized_frames_fit.Goals as goal
+
+pub returns : goal.returns
+returns c = sized_fits
