@@ -1,7 +1,7 @@
 -- The end lines of a world in strict mode, from its records, its book and its processed packets.
 use Rattle.std.proofs.Common.{◌≡◌, ℕ, [], ◌∷◌, ◌++◌, List, refl, sym, ap, ◌∙◌}
 use Rattle.std.specs.Prelude.{flat_map}
-use Rattle.std.proofs.lemmas.List.Elements.{filter_map-append}
+use Rattle.rp_world.proofs.ShownLines.{shown-both}
 use Rattle.rp_base.specs.declared.line.Line.{Line as Shown}
 use Rattle.proto_data.specs.declared.message.Record.{Record}
 use Rattle.proto_data.specs.declared.terms.Mode.{Mode}
@@ -16,7 +16,7 @@ use Rattle.proto_model.specs.ReplicaState.{Replica}
 use Rattle.proto_model.specs.SwitchState.{Switch}
 use Rattle.proto_model.specs.World.{World, History}
 use Rattle.rp_world.specs.OneEach.{one_each, IsSound}
-use Rattle.rp_world.specs.Running.{shown, line_of}
+use Rattle.rp_world.specs.Running.{shown}
 use Rattle.rp_world.specs.Endings.{noted, flow_shown, closing_shown, serial_in}
 use Rattle.rp_world.proofs.NotesKept.{noted_of}
 use Rattle.rp_world.proofs.FlowSerials.{serial-same}
@@ -28,12 +28,12 @@ flow_same w strict e =
 
 flows_same : (w : World) → w.terms.mode ≡ Mode.Strict → (es : List (Key × Record)) → flat_map (flow_shown (noted (committed_book w) w.history.items)) es ≡ shown (flat_map (flow_lines w) es)
 flows_same w strict [] = refl
-flows_same w strict (e ∷ es) = (λ i. flow_same w strict e i ++ flows_same w strict es i) ∙ sym (filter_map-append line_of (flow_lines w e) (flat_map (flow_lines w) es))
+flows_same w strict (e ∷ es) = (λ i. flow_same w strict e i ++ flows_same w strict es i) ∙ sym (shown-both (flow_lines w e) (flat_map (flow_lines w) es))
 
 pub closing_same : (cells : ℕ) (w : World) → w.terms.mode ≡ Mode.Strict → closing_shown (noted (committed_book w) w.history.items) (committed_records cells w) ≡ shown (end_lines cells w)
 closing_same cells w strict =
     ap (λ ls. ls ++ Shown.End ∷ []) (flows_same w strict (committed_records cells w))
-    ∙ sym (filter_map-append line_of (flat_map (flow_lines w) (committed_records cells w)) (End ∷ []))
+    ∙ sym (shown-both (flat_map (flow_lines w) (committed_records cells w)) (End ∷ []))
 
 -- the same of a run of one switch and one replica
 pub closing_run : (cells : ℕ) (terms : Terms) (s : Switch) (r : Replica) (book : List Booked) (frames : List Msg) (passed event : ℕ) (h : History) → IsSound cells (one_each terms s r book frames passed event h) →

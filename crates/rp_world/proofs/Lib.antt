@@ -9,6 +9,8 @@ pub mod SwitchSound
 pub mod ShownLines
 pub mod StoreSound
 pub mod RunSound
+mod FrameLengths
+mod SentSizes
 pub mod RunSteps
 pub mod SlotEnds
 pub mod SwitchOver
@@ -18,3 +20,4 @@ mod NotesKept
 mod FlowSerials
 mod ClosingShown
 mod NoteSteps
+mod Sends

@@ -1,3 +1,4 @@
+pub mod Frames
 pub mod Running
 pub mod Store
 pub mod Lease

@@ -2,6 +2,7 @@
 use Rattle.std.specs.Prelude.{ℕ, zero, suc, ◌≡◌, ◌≤◌, true, false, List, [], ◌∷◌}
 use Rattle.std.specs.List.{AllByRecursion}
 use Rattle.rp_base.specs.declared.node.Node.{Node}
+use Rattle.rp_app.specs.Application.{Application}
 use Rattle.proto_data.specs.declared.message.Msg.{Msg}
 use Rattle.proto_data.specs.declared.message.Body.{Body}
 use Rattle.proto_data.specs.declared.message.Record.{Record}
@@ -12,6 +13,7 @@ use Rattle.proto_model.specs.Records.{Booked, records_of}
 use Rattle.proto_model.specs.ReplicaState.{Replica}
 use Rattle.proto_model.specs.SwitchState.{Switch, Copy}
 use Rattle.proto_model.specs.World.{World, History, SwitchNode, ReplicaNode, first_config}
+use Rattle.proto_safety.specs.Sizes.{Sized}
 use Rattle.rp_world.specs.Steady.{IsSteadySlot}
 
 -- the numbers below n, the last one first
@@ -92,3 +94,9 @@ IsSoundAt count w _ _ = ⊥
 
 abbrev pub IsSound : ℕ → World → Type 0
 IsSound count w = IsSoundAt count w w.switches w.replicas
+
+-- what holds of such a world between its events: its application has at most 32 cells, and no node keeps or sends what is too large
+pub record IsGoing (app : Application) (w : World) : Type 0 where
+  pub cells : app.cell_count ≤ 32
+  pub sound : IsSound app.cell_count w
+  pub sized : Sized app w

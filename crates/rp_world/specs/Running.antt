@@ -1,5 +1,5 @@
 -- A world as its callers see it, and what its calls do.
-use Rattle.std.specs.Prelude.{ℕ, ◌≤◌, ◌≡◌, Bool, false, List, length, Option, Some, None, filter_map}
+use Rattle.std.specs.Prelude.{ℕ, ◌≤◌, ◌≡◌, Bool, false, List, length, map}
 use Rattle.rp_base.specs.declared.event.Event.{Event}
 use Rattle.rp_base.specs.declared.line.Line.{Line as Shown}
 use Rattle.rp_base.specs.Clocks.{TermsHold}
@@ -9,6 +9,7 @@ use Rattle.proto_data.specs.declared.terms.Mode.{Mode}
 use Rattle.proto_model.specs.Lines.{Line, Release, Dropped, LostLine, Refused, Stranger, Send, Serial, Epoch, CellsLine, End}
 use Rattle.proto_model.specs.World.{World, opened}
 use Rattle.proto_model.specs.WorldStep.{world_step}
+use Rattle.rp_frame.specs.Spelling.{kind, spelling}
 use Rattle.rp_world.specs.declared.world.Setup.{Setup}
 
 -- the application, the state of the run, and whether memory ran out
@@ -39,21 +40,21 @@ IsEvent (Event.Feed port bytes) = length bytes ≤ 1500
 IsEvent Event.Next = Unit {0}
 IsEvent _ = ⊥
 
--- a line as the report shows it; a sent frame isn't shown
-abbrev pub line_of : Line → Option Shown
-line_of (Release event mark port bytes) = Some (Shown.Release event mark port bytes)
-line_of (Dropped event mark cause) = Some (Shown.Drop event mark cause)
-line_of (LostLine event cause) = Some (Shown.Lost event cause)
-line_of (Refused event cause) = Some (Shown.Refused event cause)
-line_of (Stranger event node) = Some (Shown.Stranger event node)
-line_of (Send event frame from to kind msg) = None
-line_of (Serial key marks) = Some (Shown.Serial key marks)
-line_of (Epoch key epoch kept marks) = Some (Shown.Epoch key epoch kept marks)
-line_of (CellsLine key cells) = Some (Shown.Cells key cells)
-line_of End = Some Shown.End
+-- a line as the report shows it; that of a sent frame has the byte of its kind and the bytes that spell its message
+abbrev pub line_of : Line → Shown
+line_of (Release event mark port bytes) = Shown.Release event mark port bytes
+line_of (Dropped event mark cause) = Shown.Drop event mark cause
+line_of (LostLine event cause) = Shown.Lost event cause
+line_of (Refused event cause) = Shown.Refused event cause
+line_of (Stranger event node) = Shown.Stranger event node
+line_of (Send event frame from to named msg) = Shown.Send event frame from to (kind msg.body) (spelling msg)
+line_of (Serial key marks) = Shown.Serial key marks
+line_of (Epoch key epoch kept marks) = Shown.Epoch key epoch kept marks
+line_of (CellsLine key cells) = Shown.Cells key cells
+line_of End = Shown.End
 
 abbrev pub shown : List Line → List Shown
-shown lines = filter_map line_of lines
+shown lines = map line_of lines
 
 -- the world before its first event, of an application with so many cells
 abbrev pub opened_as : ℕ → Setup → World

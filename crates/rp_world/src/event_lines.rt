@@ -47,7 +47,7 @@ fn push_lost(lines: &mut Lines, event: u64, lost: Option<Lost>) -> Result<(), No
     }
 }
 
-/// The lines of a switch's step; a sent frame isn't shown.
+/// The lines of a switch's step, without those of what it sent.
 ///
 /// # Errors
 /// `NoMemory`.
@@ -67,7 +67,7 @@ pub(crate) fn switch_lines(
     Ok(lines)
 }
 
-/// The lines of a replica's step.
+/// The lines of a replica's step, without those of what it sent.
 ///
 /// # Errors
 /// `NoMemory`.

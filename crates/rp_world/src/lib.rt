@@ -4,10 +4,12 @@
 mod closing;
 mod event_lines;
 mod flow_notes;
+mod frames;
 mod history;
 mod records;
 mod replica;
 mod run;
+mod sending;
 mod step_notes;
 mod store_did;
 mod switch;

@@ -1,19 +1,20 @@
 //! The run of one switch and one replica.
-ghost use Rattle.std.specs.Prelude.{ℕ, ◌≡◌, ◌<◌, ◌≤◌, false, length, slice_get, IfOk, OnOk};
-ghost use Rattle.std.specs.Option.{option_copied};
+ghost use Rattle.std.specs.Prelude.{ℕ, ◌≡◌, ◌<◌, ◌≤◌, false, Some, length, option_map, slice_get, IfOk, OnOk};
 ghost use Rattle.rp_base.specs.declared.event.Event.{Event as EventValue};
 ghost use Rattle.proto_data.specs.declared.terms.Mode.{Mode as ModeValue};
 ghost use Rattle.proto_model.specs.World.{opened};
 ghost use Rattle.proto_model.specs.EndLines.{end_lines};
+ghost use Rattle.rp_frame.specs.Spelling.{spelling};
 ghost use Rattle.rp_world.specs.Running.{stepped, shown};
-ghost use Rattle.rp_world.specs.OneEach.{IsSound};
+ghost use Rattle.rp_world.specs.OneEach.{IsSound, IsGoing};
 
 use crate::closing::closing_lines;
+use crate::frames::Frames;
 use crate::history::History;
 use crate::replica::Replica;
 use crate::step_notes::{Booked, note_store, note_switch, refused};
 use crate::switch::Switch;
-use proto_model::{Chain, Config, Msg, Terms};
+use proto_model::{Chain, Config, Terms};
 use rp_app::App;
 use rp_base::{Bytes, Lines, NoMemory, Node, Packet, Refusal};
 use std::alloc::Global;
@@ -25,13 +26,6 @@ const FRAMES: usize = 65536;
 /// How many frames one event may send.
 const FRAMES_AN_EVENT: usize = 64;
 
-/// The frame with this number, if there is one.
-fn frame_at(frames: &[Msg], number: usize) -> Option<&Msg>
-    ensures { option_copied result ≡ slice_get frames.now number }
-{
-    frames.get(number)
-}
-
 /// The world of one switch and one replica, both running from the start, whose clocks stand at 0.
 #[derive(Drop)]
 pub(crate) struct Run {
@@ -39,7 +33,7 @@ pub(crate) struct Run {
     switch: Switch,
     replica: Replica,
     book: Vec<Booked>,
-    frames: Vec<Msg>,
+    frames: Frames,
     /// How many frames were passed: those with the least numbers.
     passed: usize,
     /// The number of the last event.
@@ -54,7 +48,7 @@ impl Model for Run {
 
     ghost Value = { WorldValue };
 
-    ghost view = { λ r. one_each r.terms r.switch r.replica r.book.items r.frames.items r.passed r.event r.history };
+    ghost view = { λ r. one_each r.terms r.switch r.replica r.book.items r.frames r.passed r.event r.history };
 }
 
 impl Run {
@@ -76,7 +70,7 @@ impl Run {
             switch: Switch::open(alloc, 0, 1, terms, &config)?,
             replica: Replica::open(alloc, cells, *terms),
             book: Vec::new(alloc),
-            frames: Vec::new(alloc),
+            frames: Frames::new(alloc),
             passed: 0,
             event: 0,
             history: History::new(alloc),
@@ -89,6 +83,15 @@ impl Run {
         ensures { result ≡ length self.now.frames }
     {
         self.frames.len() as u64
+    }
+
+    /// The bytes of the frame with this number.
+    pub(crate) fn frame(&self, number: u64) -> &[u8]
+        requires { number < length self.now.frames }
+        ensures spelled { option_map spelling (slice_get self.now.frames number) ≡ Some result.now }
+        ensures short { length result.now ≤ 3700 }
+    {
+        self.frames.bytes(number as usize)
     }
 
     /// The lines that a report of this run ends with.
@@ -117,13 +120,14 @@ impl Run {
         port: u16,
         bytes: &Bytes,
     ) -> Result<Lines, NoMemory>
-        requires sound { IsSound (A.meaning app.now).cell_count self.old }
+        requires going { IsGoing (A.meaning app.now) self.old }
+        requires bytes { length bytes.now ≤ 1500 }
         requires count { self.old.event < 1000000000 }
         ensures step { IfOk result (λ lines. (self.new, lines) ≡ stepped (A.meaning app.now) self.old (EventValue.Feed port bytes.now)) }
-        ensures sound { OnOk result (IsSound (A.meaning app.now).cell_count self.new) }
+        ensures going { OnOk result (IsGoing (A.meaning app.now) self.new) }
     {
         self.event += 1;
-        if self.frames.len() + FRAMES_AN_EVENT > FRAMES {
+        if self.frames.len() > FRAMES - FRAMES_AN_EVENT {
             return refused(self.alloc, self.event, Refusal::FramesFull);
         }
         let packet = Packet {
@@ -147,22 +151,22 @@ impl Run {
     /// # Errors
     /// `NoMemory`; then nothing is said of the run.
     pub(crate) fn next<A: App>(&mut self, app: &A) -> Result<Lines, NoMemory>
-        requires sound { IsSound (A.meaning app.now).cell_count self.old }
+        requires going { IsGoing (A.meaning app.now) self.old }
         requires count { self.old.event < 1000000000 }
         ensures step { IfOk result (λ lines. (self.new, lines) ≡ stepped (A.meaning app.now) self.old EventValue.Next) }
-        ensures sound { OnOk result (IsSound (A.meaning app.now).cell_count self.new) }
+        ensures going { OnOk result (IsGoing (A.meaning app.now) self.new) }
     {
         self.event += 1;
-        if self.frames.len() + FRAMES_AN_EVENT > FRAMES {
+        if self.frames.len() > FRAMES - FRAMES_AN_EVENT {
             return refused(self.alloc, self.event, Refusal::FramesFull);
         }
-        let Some(msg) = frame_at(&self.frames, self.passed) else {
+        let Some(msg) = self.frames.message(self.passed)? else {
             return refused(self.alloc, self.event, Refusal::NoneLeft);
         };
         self.passed += 1;
         match msg.to {
             Node::Switch(_) => {
-                let did = self.switch.on_msg(app, 0, msg)?;
+                let did = self.switch.on_msg(app, 0, &msg)?;
                 note_switch(
                     self.alloc,
                     self.event,
@@ -172,7 +176,7 @@ impl Run {
                 )
             }
             Node::Replica(_) => {
-                let did = self.replica.on_msg(0, msg)?;
+                let did = self.replica.on_msg(0, &msg)?;
                 note_store(
                     self.alloc,
                     self.event,

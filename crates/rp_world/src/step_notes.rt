@@ -1,15 +1,19 @@
 //! What the world notes of a node's step: frames, history, the replica's book and lines.
-ghost use Rattle.std.specs.Prelude.{◌≡◌, ◌++◌, [], ◌∷◌, ℕ, IfOk, OnOk};
+ghost use Rattle.std.specs.Prelude.{◌≡◌, ◌++◌, [], ◌∷◌, length, IfOk, OnOk};
+ghost use Rattle.std.specs.List.{AllByRecursion};
 ghost use Rattle.rp_base.specs.declared.line.Line.{Line as LineValue};
 ghost use Rattle.proto_model.specs.Effects.{added, history_after, switch_lines, store_lines};
 ghost use Rattle.proto_model.specs.Lines.{Refused};
+ghost use Rattle.rp_world.specs.Frames.{IsSendable};
 ghost use Rattle.rp_world.specs.Running.{shown};
 
 use crate::event_lines;
+use crate::frames::Frames;
 use crate::history::History;
+use crate::sending::send;
 use crate::store_did::StoreDid;
 use crate::switch_did::SwitchDid;
-use proto_model::{Entry, Msg};
+use proto_model::Entry;
 use rp_base::{Line, Lines, NoMemory, Refusal};
 use std::alloc::Global;
 use std::marker::Model;
@@ -37,27 +41,28 @@ impl Model for Booked {
 pub(crate) fn note_switch(
     alloc: Global,
     event: u64,
-    frames: &mut Vec<Msg>,
+    frames: &mut Frames,
     history: &mut History,
     did: SwitchDid,
 ) -> Result<Lines, NoMemory>
     requires begun { did.begun ≡ [] }
-    ensures frames { OnOk result (frames.new.items ≡ frames.old.items ++ did.sent) }
+    requires sent { AllByRecursion IsSendable did.sent }
+    ensures frames { OnOk result (frames.new ≡ frames.old ++ did.sent) }
     ensures history { OnOk result (history.new ≡ history_after event history.old did) }
-    ensures lines { IfOk result (λ lines. (frame : ℕ) → lines ≡ shown (switch_lines event frame did)) }
+    ensures lines { IfOk result (λ lines. lines ≡ shown (switch_lines event (length frames.old) did)) }
 {
     let SwitchDid {
-        mut sent,
+        sent,
         released,
         item,
         dropped,
         begun: _,
         lost,
     } = did;
-    let lines = event_lines::switch_lines(alloc, event, &released, dropped, lost)?;
+    let mut lines = event_lines::switch_lines(alloc, event, &released, dropped, lost)?;
     history.push_item(event, item, &released, &sent)?;
     history.push_released(event, released)?;
-    frames.append(&mut sent)?;
+    send(&mut lines, event, frames, &sent)?;
     Ok(lines)
 }
 
@@ -69,22 +74,23 @@ pub(crate) fn note_store(
     alloc: Global,
     event: u64,
     now: u64,
-    frames: &mut Vec<Msg>,
+    frames: &mut Frames,
     book: &mut Vec<Booked>,
     did: StoreDid,
 ) -> Result<Lines, NoMemory>
-    ensures frames { OnOk result (frames.new.items ≡ frames.old.items ++ did.sent) }
+    requires sent { AllByRecursion IsSendable did.sent }
+    ensures frames { OnOk result (frames.new ≡ frames.old ++ did.sent) }
     ensures book { OnOk result (book.new.items ≡ book.old.items ++ added (λ e. record { entry = e; moment = now; event = event }) did.applied) }
-    ensures lines { IfOk result (λ lines. (frame : ℕ) → lines ≡ shown (store_lines event frame did)) }
+    ensures lines { IfOk result (λ lines. lines ≡ shown (store_lines event (length frames.old) did)) }
 {
     let StoreDid {
-        mut sent,
+        sent,
         applied,
         lost,
     } = did;
-    let lines = event_lines::store_lines(alloc, event, lost)?;
+    let mut lines = event_lines::store_lines(alloc, event, lost)?;
     push_booked(book, event, now, applied)?;
-    frames.append(&mut sent)?;
+    send(&mut lines, event, frames, &sent)?;
     Ok(lines)
 }
 

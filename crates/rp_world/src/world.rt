@@ -1,8 +1,10 @@
 //! The world of a run.
-ghost use Rattle.std.specs.Prelude.{◌≡◌, ◌<◌, ◌≤◌, true, false, length, IfOk, OnOk, OnErr, IsErr};
+ghost use Rattle.std.specs.Prelude.{◌≡◌, ◌<◌, ◌≤◌, true, false, Some, length, option_map, slice_get, IfOk, OnOk, OnErr, IsErr};
 ghost use Rattle.proto_model.specs.EndLines.{end_lines};
+ghost use Rattle.proto_safety.specs.Frames.{Grows};
+ghost use Rattle.rp_frame.specs.Spelling.{spelling};
 ghost use Rattle.rp_world.specs.Running.{IsSetup, IsEvent, opened_as, stepped, shown};
-ghost use Rattle.rp_world.specs.OneEach.{IsSound};
+ghost use Rattle.rp_world.specs.OneEach.{IsGoing};
 
 use crate::run::Run;
 use proto_model::Terms;
@@ -32,22 +34,22 @@ pub struct World<A: App> {
 impl<A: App> Model for World<A> {
     ghost use Rattle.std.specs.Prelude.{◌≡◌, false};
     ghost use Rattle.rp_world.specs.Running.{Running};
-    ghost use Rattle.rp_world.specs.OneEach.{IsSound};
+    ghost use Rattle.rp_world.specs.OneEach.{IsGoing};
 
     ghost Value = { Running A };
 
     ghost view = { λ w. record { app = w.app; world = w.run; failed = w.failed } };
 
-    ghost invariant = { λ w. w.failed ≡ false → IsSound (A.meaning w.app).cell_count w.run };
+    ghost invariant = { λ w. w.failed ≡ false → IsGoing (A.meaning w.app) w.run };
 }
 
 /// Takes one event.
 fn step<A: App>(app: &A, run: &mut Run, e: &Event) -> Result<Lines, NoMemory>
     requires event { IsEvent e.now }
     requires count { run.old.event < 1000000000 }
-    requires sound { IsSound (A.meaning app.now).cell_count run.old }
+    requires going { IsGoing (A.meaning app.now) run.old }
     ensures step { IfOk result (λ lines. (run.new, lines) ≡ stepped (A.meaning app.now) run.old e.now) }
-    ensures sound { OnOk result (IsSound (A.meaning app.now).cell_count run.new) }
+    ensures going { OnOk result (IsGoing (A.meaning app.now) run.new) }
 {
     match e {
         Event::Feed { port, bytes } => run.feed(app, *port, bytes),
@@ -76,7 +78,8 @@ impl<A: App> World<A> {
         })
     }
 
-    /// Takes one event, and gives the lines that it writes. Events are numbered from 1.
+    /// Takes one event, and gives the lines that it writes, those of sent frames among them. Events are numbered from 1.
+    /// At most 64 frames are sent.
     ///
     /// # Errors
     /// `NoMemory`, and from then on each call answers it; nothing is said of the rest of the world.
@@ -84,6 +87,7 @@ impl<A: App> World<A> {
         requires event { IsEvent e.now }
         requires count { self.old.world.event < 1000000000 }
         ensures ok { IfOk result (λ lines. (self.new.world, lines) ≡ stepped (A.meaning self.old.app) self.old.world e.now) }
+        ensures few { OnOk result (Grows self.old.world.frames self.new.world.frames) }
         ensures app { self.new.app ≡ self.old.app }
         ensures err { OnErr result (self.new.failed ≡ true) }
         ensures stays { self.old.failed ≡ true → IsErr result }
@@ -116,5 +120,14 @@ impl<A: App> World<A> {
         ensures { result ≡ length self.now.world.frames }
     {
         self.run.frames()
+    }
+
+    /// The bytes of the frame with this number, counted from 0.
+    pub fn frame(&self, i: u64) -> &[u8]
+        requires { i < length self.now.world.frames }
+        ensures spelled { option_map spelling (slice_get self.now.world.frames i) ≡ Some result.now }
+        ensures short { length result.now ≤ 3700 }
+    {
+        self.run.frame(i)
     }
 }

@@ -1,6 +1,14 @@
-use Rattle.std.proofs.Common.{◌∙◌, sym}
+use Rattle.std.proofs.Common.{◌≡◌, ◌∙◌, ◌++◌, length, subst}
+use Rattle.proto_model.specs.Effects.{store_lines}
+use Rattle.proto_model.specs.Lines.{send_lines}
+use Rattle.rp_world.specs.Running.{shown}
 use Rattle.rp_world.proofs.ShownLines.{shown-store}
 use Rattle.rp_world.proofs.step_notes.note_store.Goals as goal
 
 pub returns-clause-lines : goal.returns-clause-lines
-returns-clause-lines c frame = rw (sym c.did.view_is) (c.in_ok-lines.ensures ∙ sym (shown-store c.args.event frame (record { sent = c.did.inside.sent.items; applied = c.did.inside.applied; lost = c.did.inside.lost })))
+returns-clause-lines c =
+    let before = length c.args.frames.now in
+    subst (λ did. c.send.new.lines ≡ shown (store_lines c.args.event before did)) c.did.view_is
+    (c.in_ok-send.ensures.lines
+    ∙ (λ i. c.in_ok-lines.ensures i ++ shown (send_lines c.args.event before (c.deref.ensures.value i)))
+    ∙ shown-store c.args.event before (record { sent = c.did.inside.sent.items; applied = c.did.inside.applied; lost = c.did.inside.lost }))

@@ -11,4 +11,4 @@ returns c cells =
     subst (λ w. IsSound cells w → c.in_ok-lines.lines ≡ shown (end_lines cells w)) c.self.view_is
     (λ sound. c.in_ok-lines.ensures
     ∙ (λ i. closing_shown (noted (c.deref.ensures.value i) (c.items.ensures i)) (c.records.ensures i))
-    ∙ closing_run cells c.self.inside.terms c.self.inside.switch c.self.inside.replica c.self.inside.book.items c.self.inside.frames.items c.self.inside.passed c.self.inside.event c.self.inside.history sound)
+    ∙ closing_run cells c.self.inside.terms c.self.inside.switch c.self.inside.replica c.self.inside.book.items c.self.inside.frames c.self.inside.passed c.self.inside.event c.self.inside.history sound)
