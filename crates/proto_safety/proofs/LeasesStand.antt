@@ -43,12 +43,16 @@ leases_now app w fs g h =
       late = ends.late;
     }
 
--- after every list of events, with the first sendings of the run
-pub leases_hold : (app : Application) (setup : Setup) → setup.terms.mode ≡ Mode.Strict → TermsHold setup.terms.t_switch setup.terms.t_store setup.terms.ratio → 1 ≤ setup.terms.t_store → (events : List Event) →
-    Leases (firsts_of app setup events) (world_after app (opened app.cell_count setup) events)
-leases_hold app setup strict hold some events =
-    leases_now app (world_after app (opened app.cell_count setup) events) (firsts_of app setup events) (run_kept app (Standing app) (standing_kept app) events (opened app.cell_count setup) start)
-    (firsts_kept app (Standing app) Ending (standing_kept app) (ending_kept app) events (opened app.cell_count setup) [] start (opened_ending app setup hold some))
-  where
-    start : Standing app (opened app.cell_count setup)
-    start = laid_stands app (opened app.cell_count setup) (opened_laid app setup strict)
+-- ---- every run
+
+module _ (app : Application) (setup : Setup) (strict : setup.terms.mode ≡ Mode.Strict) (hold : TermsHold setup.terms.t_switch setup.terms.t_store setup.terms.ratio) (some : 1 ≤ setup.terms.t_store) where
+  start : Standing app (opened app.cell_count setup)
+  start = laid_stands app (opened app.cell_count setup) (opened_laid app setup strict)
+
+  -- what ends leases is kept with the first sendings of the run
+  pub ending_after : (events : List Event) → Ending (firsts_of app setup events) (world_after app (opened app.cell_count setup) events)
+  ending_after events = firsts_kept app (Standing app) Ending (standing_kept app) (ending_kept app) events (opened app.cell_count setup) [] start (opened_ending app setup hold some)
+
+  pub leases_hold : (events : List Event) → Leases (firsts_of app setup events) (world_after app (opened app.cell_count setup) events)
+  leases_hold events =
+      leases_now app (world_after app (opened app.cell_count setup) events) (firsts_of app setup events) (run_kept app (Standing app) (standing_kept app) events (opened app.cell_count setup) start) (ending_after events)

@@ -125,3 +125,4 @@ pub mod StraightTail
 pub mod StraightPuts
 pub mod CopyRoom
 pub mod StraightAsks
+pub mod FirstsOnce

@@ -13,3 +13,4 @@ pub mod SwitchSent
 pub mod Origins
 pub mod Frames
 pub mod NeededPremises
+pub mod FirstLaws

@@ -1,14 +1,27 @@
 //! Leases: how long they last, whose they are, and when a flow goes over to its next epoch.
 
-ghost use Rattle.std.specs.Prelude.{◌≡◌, ◌≤◌, List};
+ghost use Rattle.std.specs.Prelude.{◌⊎◌, ◌≡◌, ◌≤◌, [], ◌∷◌, ◌++◌, List};
 ghost use Rattle.rp_base.specs.Clocks.{TermsHold};
 ghost use Rattle.rp_base.specs.declared.event.Event.{Event};
 ghost use Rattle.rp_app.specs.Application.{Application};
 ghost use Rattle.proto_data.specs.declared.terms.Mode.{Mode};
 ghost use Rattle.proto_model.specs.World.{Setup, opened};
 ghost use Rattle.proto_model.specs.WorldStep.{world_after};
+ghost use Rattle.proto_safety.specs.Books.{In};
+ghost use Rattle.proto_safety.specs.FirstLaws.{AreFirsts, IsNow};
 ghost use Rattle.proto_safety.specs.Firsts.{firsts_of};
-ghost use Rattle.proto_safety.specs.LeaseLaws.{Leases};
+ghost use Rattle.proto_safety.specs.LeaseLaws.{First, Leases};
+
+/// The first sendings of a run are those of its requests: in strict mode, with terms that hold, each request that a switch sent
+/// is there, once, and no other. One that an event adds has the moment that the switch's clock read then.
+pub fn first_sendings_stand()
+    ensures requests { (app : Application) (setup : Setup) → setup.terms.mode ≡ Mode.Strict →
+        TermsHold setup.terms.t_switch setup.terms.t_store setup.terms.ratio → 1 ≤ setup.terms.t_store → (events : List Event) →
+        AreFirsts (firsts_of app setup events) (world_after app (opened app.cell_count setup) events).frames }
+    ensures moments { (app : Application) (setup : Setup) (events : List Event) (event : Event) (f : First) →
+        In (firsts_of app setup (events ++ event ∷ [])) f →
+        In (firsts_of app setup events) f ⊎ IsNow (world_after app (opened app.cell_count setup) events) f }
+{}
 
 /// In strict mode, with terms by which a lease has ended at its switch before the store gives the flow to another, and with the
 /// first sendings of the run's requests: what passed at a replica since it applied a request's entry is bounded, by the ratio,
