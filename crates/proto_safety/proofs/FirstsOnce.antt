@@ -1,7 +1,6 @@
 -- The list of first sendings has each request of the frames once, with the switch's clock when it was first sent.
-use Rattle.std.proofs.Common.{◌≡◌, ◌⊎◌, inl, inr, ℕ, ◌≤◌, List, [], ◌∷◌, ◌++◌, Option, Some, None, refl, sym, ap, ◌∙◌, subst, true, false, Bool, slice_get}
+use Rattle.std.proofs.Common.{◌≡◌, ◌⊎◌, inl, inr, ℕ, List, [], ◌∷◌, ◌++◌, Option, Some, None, refl, sym, ap, ◌∙◌, subst, true, false, Bool, slice_get}
 use Rattle.std.specs.List.{list_any}
-use Rattle.rp_base.specs.Clocks.{TermsHold}
 use Rattle.rp_base.specs.declared.node.Node.{Node}
 use Rattle.rp_base.specs.declared.event.Event.{Event}
 use Rattle.proto_data.specs.declared.message.Msg.{Msg}
@@ -20,9 +19,12 @@ use Rattle.proto_safety.specs.Firsts.{request_of, is_made, with_request, with_se
 use Rattle.proto_safety.specs.LeaseLaws.{Request, First}
 use Rattle.proto_safety.proofs.FedMarks.{pairwise_push}
 use Rattle.proto_safety.proofs.FirstSendings.{Made, SentNow, sending, stays, comes, made_any, not_made, sent_was}
-use Rattle.proto_safety.proofs.LeasesStand.{ending_after}
+use Rattle.proto_safety.proofs.FirstsInduction.{firsts_kept}
+use Rattle.proto_safety.proofs.FirstsKept.{Settled, settled_kept, firsts_kept_by}
+use Rattle.proto_safety.proofs.HandedKept.{opened_firsts}
+use Rattle.proto_safety.proofs.LegalRun.{opened_laid, laid_stands}
 use Rattle.proto_safety.proofs.SerialOnce.{each_all}
-use Rattle.proto_safety.proofs.WorldFirsts.{WasSent, by_ask, by_put}
+use Rattle.proto_safety.proofs.WorldFirsts.{FirstsHold, WasSent, by_ask, by_put}
 
 -- ---- once
 
@@ -69,10 +71,10 @@ was_request : (frames : List Msg) (f : First) → WasSent frames f → RequestSe
 was_request frames f (by_ask is a) = record { msg = a.msg; there = a.there; from_is = a.from_is; request_is = ap request_of a.body_is ∙ ap (λ (x : Request). Some (f.key, x)) (sym is) }
 was_request frames f (by_put is p) = record { msg = p.msg; there = p.there; from_is = p.from_is; request_is = ap request_of p.body_is ∙ ap (λ (x : Request). Some (f.key, x)) (sym is) }
 
-pub are_firsts : (app : Application) (setup : Setup) → setup.terms.mode ≡ Mode.Strict → TermsHold setup.terms.t_switch setup.terms.t_store setup.terms.ratio → 1 ≤ setup.terms.t_store → (events : List Event) →
-    AreFirsts (firsts_of app setup events) (world_after app (opened app.cell_count setup) events).frames
-are_firsts app setup strict hold some events =
-    let h = (ending_after app setup strict hold some events).0.0 in
+pub are_firsts : (app : Application) (setup : Setup) → setup.terms.mode ≡ Mode.Strict → (events : List Event) → AreFirsts (firsts_of app setup events) (world_after app (opened app.cell_count setup) events).frames
+are_firsts app setup strict events =
+    let start : Settled app.cell_count (opened app.cell_count setup) = (laid_stands app (opened app.cell_count setup) (opened_laid app setup strict)).0 in
+    let h : FirstsHold (firsts_of app setup events) (world_after app (opened app.cell_count setup) events) = firsts_kept app (Settled app.cell_count) FirstsHold (settled_kept app) (firsts_kept_by app) events (opened app.cell_count setup) [] start (opened_firsts app setup) in
     record {
       all = λ m s key request i from is.
           let d : Made (firsts_of app setup events) s key request = h.asked m s (key, request) i from is in

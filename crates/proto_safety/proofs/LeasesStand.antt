@@ -50,7 +50,7 @@ module _ (app : Application) (setup : Setup) (strict : setup.terms.mode ≡ Mode
   start = laid_stands app (opened app.cell_count setup) (opened_laid app setup strict)
 
   -- what ends leases is kept with the first sendings of the run
-  pub ending_after : (events : List Event) → Ending (firsts_of app setup events) (world_after app (opened app.cell_count setup) events)
+  ending_after : (events : List Event) → Ending (firsts_of app setup events) (world_after app (opened app.cell_count setup) events)
   ending_after events = firsts_kept app (Standing app) Ending (standing_kept app) (ending_kept app) events (opened app.cell_count setup) [] start (opened_ending app setup hold some)
 
   pub leases_hold : (events : List Event) → Leases (firsts_of app setup events) (world_after app (opened app.cell_count setup) events)

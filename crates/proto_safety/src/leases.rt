@@ -12,11 +12,10 @@ ghost use Rattle.proto_safety.specs.FirstLaws.{AreFirsts, IsNow};
 ghost use Rattle.proto_safety.specs.Firsts.{firsts_of};
 ghost use Rattle.proto_safety.specs.LeaseLaws.{First, Leases};
 
-/// The first sendings of a run are those of its requests: in strict mode, with terms that hold, each request that a switch sent
-/// is there, once, and no other. One that an event adds has the moment that the switch's clock read then.
+/// The first sendings of a run are those of its requests: in strict mode each request that a switch sent is there, once, and no
+/// other. One that an event adds has the moment that the switch's clock read then.
 pub fn first_sendings_stand()
-    ensures requests { (app : Application) (setup : Setup) → setup.terms.mode ≡ Mode.Strict →
-        TermsHold setup.terms.t_switch setup.terms.t_store setup.terms.ratio → 1 ≤ setup.terms.t_store → (events : List Event) →
+    ensures requests { (app : Application) (setup : Setup) → setup.terms.mode ≡ Mode.Strict → (events : List Event) →
         AreFirsts (firsts_of app setup events) (world_after app (opened app.cell_count setup) events).frames }
     ensures moments { (app : Application) (setup : Setup) (events : List Event) (event : Event) (f : First) →
         In (firsts_of app setup (events ++ event ∷ [])) f →
