@@ -38,7 +38,7 @@ leases_now app w fs g h =
       greatest = λ n inc nonce k key node slot f s has i of at request.
           greatest_ask w n inc nonce k key node g.0.0.1.0.1 s.at (record { slot = slot; found = s.found; nonce = has }) (ask_sent w f n inc nonce key of at request (h.0.0.sent f i));
       handed = λ key epoch switch inc nonce next_switch next_inc next_nonce before o.
-          h.1.0 o.replica o.node o.runs.at key epoch switch inc nonce next_switch next_inc next_nonce before o.behind o.book_is o.granted;
+          h.1.0 o.replica o.node o.at key epoch switch inc nonce next_switch next_inc next_nonce before o.behind o.book_is o.granted;
       over = ends.over;
       late = ends.late;
     }
