@@ -225,7 +225,7 @@ module _ (app : Application) (w : World) (b : Based app w) (o : OverLate w) wher
       le_case false t =
           let grant : In es (Entry.Grant key f.epoch f.switch f.inc f.nonce) = granted_in app.cell_count key es f flow in
           let r = known.runner (Entry.Grant key f.epoch f.switch f.inc f.nonce) grant in
-          let ends : expiry ≤ node.clock = o.over r.0 n e f.epoch key r.1 node slot (Entry.Grant key f.epoch f.switch f.inc f.nonce) nonce expiry (record { at = r.2; up = r.3 }) r.4 (refl, refl) (leb-false f.epoch e t) (record { at = at; up = up; found = found }) is in
+          let ends : expiry ≤ node.clock = o.over r.0 n e f.epoch key r.1 node slot (Entry.Grant key f.epoch f.switch f.inc f.nonce) nonce expiry (record { at = r.2; up = r.3 }) r.4 (refl, refl) (leb-false f.epoch e t) (record { at = at; found = found }) is in
           absurd (omega arith)
 
   asking_epoch : (n nonce since e : ℕ) (key : Key) (node : SwitchNode) (slot : Slot) (f : Flow) → slice_get w.switches n ≡ Some node → node.runs ≡ true → slot_at node.state key ≡ Some slot → slot.lease ≡ Asking nonce since → is_young node.state.terms.t_switch since node.clock ≡ true →
@@ -239,7 +239,7 @@ module _ (app : Application) (w : World) (b : Based app w) (o : OverLate w) wher
           let r = known.runner (Entry.Grant key f.epoch f.switch f.inc f.nonce) grant in
           let there : In (entries_of r.1.book) (Entry.Grant key e n node.state.inc nonce) = in_prefix es (entries_of r.1.book) _ (known.within r.0 r.1 r.2 r.3) own in
           let old : is_young w.terms.t_switch since node.clock ≡ false =
-          o.late r.0 n e f.epoch key r.1 node slot (Entry.Grant key f.epoch f.switch f.inc f.nonce) nonce since (record { at = r.2; up = r.3 }) r.4 (refl, refl) (leb-false f.epoch e t) (record { at = at; up = up; found = found }) is there in
+          o.late r.0 n e f.epoch key r.1 node slot (Entry.Grant key f.epoch f.switch f.inc f.nonce) nonce since (record { at = r.2; up = r.3 }) r.4 (refl, refl) (leb-false f.epoch e t) (record { at = at; found = found }) is there in
           absurd (both_ways _ old (subst (λ x. is_young x.t_switch since node.clock ≡ true) (b.0.0.1.1.switches n node at) young))
 
   -- ---- a Grant that is taken in time

@@ -2,6 +2,7 @@
 use Rattle.std.proofs.Common.{◌≡◌, ℕ, ◌+◌, ◌≤◌, ◌/◌, List, [], ◌∷◌, ◌++◌, length, map, filter, Option, Some, None, arith, refl, true, false, Bool, zero, suc, length-append}
 use Rattle.std.specs.Prelude.{◌&&◌, ◌||◌, not, nat_lt, is_some, if◌then◌else◌}
 use Rattle.std.proofs.lemmas.Bool.{and_parts, ltb-true, leb-false}
+use Rattle.std.proofs.lemmas.List.Sums.{length-filter, count_by-le-length}
 use Rattle.rp_base.specs.declared.event.Event.{Event}
 use Rattle.proto_data.specs.declared.message.Input.{Input}
 use Rattle.proto_data.specs.declared.terms.Mode.{Mode}
@@ -21,12 +22,7 @@ use Rattle.proto_safety.proofs.SwitchNodes.{AllAt, all_set, all_changed, all_adv
 use Rattle.proto_safety.proofs.SwitchTable.{Acts, mirrored, row_acts}
 
 filter_few : {A : Type 0} (p : A → Bool) (xs : List A) → length (filter p xs) ≤ length xs
-filter_few p [] = omega arith
-filter_few p (x ∷ xs) = keep_case (p x) (filter_few p xs)
-  where
-    keep_case : (b : Bool) → length (filter p xs) ≤ length xs → length (if b then x ∷ filter p xs else filter p xs) ≤ length (x ∷ xs)
-    keep_case true h = omega (arith, h)
-    keep_case false h = omega (arith, h)
+filter_few p xs = omega (arith, length-filter p xs, count_by-le-length p xs)
 
 -- copies that are due and the others are all copies
 due_parts : (now age room : ℕ) (cs : List Copy) → length (due_copies now age room cs) + length (other_copies now age room cs) ≡ length cs

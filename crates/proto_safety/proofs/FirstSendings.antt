@@ -1,10 +1,10 @@
 -- How the list of first sendings grows by a request: by one member where the request is new, and else not at all.
 use Rattle.std.proofs.Common.{◌≡◌, ◌⊎◌, inl, inr, ℕ, List, [], ◌∷◌, ◌++◌, Option, Some, None, refl, sym, ap, ◌∙◌, true, false, Bool, eq-eqb, eqb-true, subst}
-use Rattle.std.specs.Prelude.{◌==◌, ◌&&◌, ◌||◌, if◌then◌else◌}
+use Rattle.std.specs.Prelude.{◌||◌, if◌then◌else◌}
 use Rattle.std.specs.List.{list_any}
 use Rattle.std.proofs.lemmas.Bool.{and_parts, and_from, both_ways, false≢true}
 use Rattle.proto_data.specs.declared.message.Msg.{Msg}
-use Rattle.proto_model.specs.Table.{Key, same_key}
+use Rattle.proto_model.specs.Table.{Key}
 use Rattle.proto_model.specs.Feeds.{Each}
 use Rattle.proto_safety.specs.Books.{In}
 use Rattle.proto_safety.specs.LeaseLaws.{Request, AskOf, NumberOf, First}
@@ -47,7 +47,7 @@ any_made s key request (x ∷ xs) f (inr i) is = any_case (is_made s key request
     any_case true h = refl
     any_case false h = h
 
-made_any : (s : ℕ) (key : Key) (request : Request) (fs : List First) → list_any (is_made s key request) fs ≡ true → Made fs s key request
+pub made_any : (s : ℕ) (key : Key) (request : Request) (fs : List First) → list_any (is_made s key request) fs ≡ true → Made fs s key request
 made_any s key request [] h = absurd (false≢true h)
 made_any s key request (x ∷ xs) h = any_case (is_made s key request x) refl h (made_any s key request xs)
   where
@@ -58,6 +58,10 @@ made_any s key request (x ∷ xs) h = any_case (is_made s key request x) refl h 
         record { first = x; there = inl refl; switch_is = eqb-true x.switch s parts.0; key_is = same_key-true x.key key more.0; request_is = same_request-true x.request request more.1 }
     any_case false is h rest =
         let m = rest h in record { first = m.first; there = inr m.there; switch_is = m.switch_is; key_is = m.key_is; request_is = m.request_is }
+
+-- a request that none of these is, wasn't made
+pub not_made : (s : ℕ) (key : Key) (request : Request) (fs : List First) → list_any (is_made s key request) fs ≡ false → Made fs s key request → ⊥
+not_made s key request fs is m = both_ways (list_any (is_made s key request) fs) is (any_made s key request fs m.first m.there (made_one s key request m.first m.switch_is m.key_is m.request_is))
 
 -- ---- one request
 
@@ -94,12 +98,9 @@ pub record IsNow (s now : ℕ) (fs : List First) (f : First) : Type 0 where
 pub request_was : (s now : ℕ) (fs : List First) (r : Key × Request) (f : First) → In (with_request s now fs (Some r)) f → In fs f ⊎ (IsNow s now fs f × (f ≡ sending s now r.0 r.1))
 request_was s now fs r f i = was_case (list_any (is_made s r.0 r.1) fs) refl i
   where
-    not_made : list_any (is_made s r.0 r.1) fs ≡ false → Made fs s r.0 r.1 → ⊥
-    not_made is m = both_ways (list_any (is_made s r.0 r.1) fs) is (any_made s r.0 r.1 fs m.first m.there (made_one s r.0 r.1 m.first m.switch_is m.key_is m.request_is))
-
     last_case : list_any (is_made s r.0 r.1) fs ≡ false → In fs f ⊎ In (sending s now r.0 r.1 ∷ []) f → In fs f ⊎ (IsNow s now fs f × (f ≡ sending s now r.0 r.1))
     last_case is (inl there) = inl there
-    last_case is (inr (inl e)) = inr (subst (λ (x : First). IsNow s now fs x × (x ≡ sending s now r.0 r.1)) e (record { switch_is = refl; moment_is = refl; new = not_made is }, refl))
+    last_case is (inr (inl e)) = inr (subst (λ (x : First). IsNow s now fs x × (x ≡ sending s now r.0 r.1)) e (record { switch_is = refl; moment_is = refl; new = not_made s r.0 r.1 fs is }, refl))
     last_case is (inr (inr j)) = absurd j
 
     was_case : (b : Bool) → list_any (is_made s r.0 r.1) fs ≡ b → In (if b then fs else fs ++ sending s now r.0 r.1 ∷ []) f → In fs f ⊎ (IsNow s now fs f × (f ≡ sending s now r.0 r.1))

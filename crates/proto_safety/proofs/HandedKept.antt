@@ -1,8 +1,7 @@
 -- What each Grant of a next epoch rests on, over every run in strict mode whose terms hold; so leases end, and the defined run is legal.
-use Rattle.std.proofs.Common.{◌≡◌, ◌≢◌, ◌⊎◌, inl, inr, ℕ, ◌+◌, ◌≤◌, List, [], ◌∷◌, ◌++◌, drop, length, map, Option, Some, None, refl, sym, ap, ◌∙◌, subst, arith, set, slice_get, true, false, zero, suc}
+use Rattle.std.proofs.Common.{◌≡◌, ◌≢◌, ◌⊎◌, inl, inr, ℕ, ◌+◌, ◌≤◌, List, [], ◌∷◌, ◌++◌, drop, length, map, Some, None, refl, sym, ap, ◌∙◌, subst, arith, set, slice_get, true, false, zero, suc}
 use Rattle.rp_base.specs.Clocks.{TermsHold}
 use Rattle.rp_base.specs.declared.node.Node.{Node}
-use Rattle.rp_base.specs.declared.node.Packet.{Packet}
 use Rattle.rp_base.specs.declared.event.Event.{Event}
 use Rattle.proto_data.specs.declared.message.Msg.{Msg}
 use Rattle.proto_data.specs.declared.message.Entry.{Entry}
@@ -15,9 +14,8 @@ use Rattle.proto_model.specs.Stands.{entries_of}
 use Rattle.proto_model.specs.Slot.{Slot}
 use Rattle.proto_model.specs.SwitchState.{open_switch, slot_at}
 use Rattle.proto_model.specs.SwitchRows.{switch_step}
-use Rattle.proto_model.specs.ReplicaRows.{store_step}
-use Rattle.proto_model.specs.Effects.{switch_moved, replica_moved, frame_passed, master_sent}
-use Rattle.proto_model.specs.World.{World, Setup, SwitchNode, ReplicaNode, opened, open_switch_node, open_replica_node, below}
+use Rattle.proto_model.specs.Effects.{switch_moved, frame_passed, master_sent}
+use Rattle.proto_model.specs.World.{World, Setup, SwitchNode, ReplicaNode, opened, open_replica_node, below}
 use Rattle.proto_model.specs.WorldStep.{world_after, advanced, advanced_switches, advanced_replicas, changed_at, next_event, stopped, booted, detected, announcements}
 use Rattle.proto_safety.specs.Books.{In}
 use Rattle.proto_safety.specs.LeaseLaws.{First, IsEntryOf, HasEpoch}
@@ -27,9 +25,9 @@ use Rattle.proto_safety.proofs.BookMoments.{AllMoments, moments_kept, opened_mom
 use Rattle.proto_safety.proofs.CellsGround.{OverLate}
 use Rattle.proto_safety.proofs.FirstSendings.{SentNow, sent_was}
 use Rattle.proto_safety.proofs.FirstsInduction.{KeepsFirsts}
-use Rattle.proto_safety.proofs.FirstsKept.{Settled, settled_kept, sources_of}
+use Rattle.proto_safety.proofs.FirstsKept.{settled_kept, sources_of}
 use Rattle.proto_safety.proofs.FlowBooks.{in_front}
-use Rattle.proto_safety.proofs.Ground.{Ground, known_of}
+use Rattle.proto_safety.proofs.Ground.{known_of}
 use Rattle.proto_safety.proofs.GroundsKept.{Standing, LeasesHold, leases_kept}
 use Rattle.proto_safety.proofs.Handed.{Passed, HandedHold}
 use Rattle.proto_safety.proofs.HandedOn.{ClocksOn, SameBooks, handed_on}
@@ -204,9 +202,8 @@ ending_kept app =
 pub ends_leases : (app : Application) (w : World) (fs : List First) → Laid app w → Ending fs w → OverLate w
 ends_leases app w fs l h = over_late app.cell_count w fs l.0.0.0 h.1.0 h.0.1
 
-pub opened_ending : (app : Application) (setup : Setup) → TermsHold setup.terms.t_switch setup.terms.t_store setup.terms.ratio → 1 ≤ setup.terms.t_store → Ending [] (opened app.cell_count setup)
-opened_ending app setup hold some = (
-  (
+pub opened_firsts : (app : Application) (setup : Setup) → FirstsHold [] (opened app.cell_count setup)
+opened_firsts app setup =
     record {
       nodes = all_opened (λ n (node : SwitchNode). NodeFirsts [] n node.state.inc node.state.slots node.state.copies) setup (λ n. record { asking = λ key slot nonce first at is. cc; copied = λ key slot epoch c at is i of. absurd i });
       past = λ f i. absurd i;
@@ -214,7 +211,12 @@ opened_ending app setup hold some = (
       asked = λ m n r i from is. absurd i;
       no_snaps = tt;
       aged = λ f r node b i at j is. absurd i;
-    },
+    }
+
+pub opened_ending : (app : Application) (setup : Setup) → TermsHold setup.terms.t_switch setup.terms.t_store setup.terms.ratio → 1 ≤ setup.terms.t_store → Ending [] (opened app.cell_count setup)
+opened_ending app setup hold some = (
+  (
+    opened_firsts app setup,
     λ n node key slot at found.
         absurd (all_opened (λ n (node : SwitchNode). (key : Key) (slot : Slot) → slot_at node.state key ≡ Some slot → ⊥) setup (λ n key slot is. let no : None ≡ Some slot = is in absurd cc) n node at key slot found),
   ),

@@ -38,17 +38,21 @@ leases_now app w fs g h =
       greatest = λ n inc nonce k key node slot f s has i of at request.
           greatest_ask w n inc nonce k key node g.0.0.1.0.1 s.at (record { slot = slot; found = s.found; nonce = has }) (ask_sent w f n inc nonce key of at request (h.0.0.sent f i));
       handed = λ key epoch switch inc nonce next_switch next_inc next_nonce before o.
-          h.1.0 o.replica o.node o.runs.at key epoch switch inc nonce next_switch next_inc next_nonce before o.behind o.book_is o.granted;
+          h.1.0 o.replica o.node o.at key epoch switch inc nonce next_switch next_inc next_nonce before o.behind o.book_is o.granted;
       over = ends.over;
       late = ends.late;
     }
 
--- after every list of events, with the first sendings of the run
-pub leases_hold : (app : Application) (setup : Setup) → setup.terms.mode ≡ Mode.Strict → TermsHold setup.terms.t_switch setup.terms.t_store setup.terms.ratio → 1 ≤ setup.terms.t_store → (events : List Event) →
-    Leases (firsts_of app setup events) (world_after app (opened app.cell_count setup) events)
-leases_hold app setup strict hold some events =
-    leases_now app (world_after app (opened app.cell_count setup) events) (firsts_of app setup events) (run_kept app (Standing app) (standing_kept app) events (opened app.cell_count setup) start)
-    (firsts_kept app (Standing app) Ending (standing_kept app) (ending_kept app) events (opened app.cell_count setup) [] start (opened_ending app setup hold some))
-  where
-    start : Standing app (opened app.cell_count setup)
-    start = laid_stands app (opened app.cell_count setup) (opened_laid app setup strict)
+-- ---- every run
+
+module _ (app : Application) (setup : Setup) (strict : setup.terms.mode ≡ Mode.Strict) (hold : TermsHold setup.terms.t_switch setup.terms.t_store setup.terms.ratio) (some : 1 ≤ setup.terms.t_store) where
+  start : Standing app (opened app.cell_count setup)
+  start = laid_stands app (opened app.cell_count setup) (opened_laid app setup strict)
+
+  -- what ends leases is kept with the first sendings of the run
+  ending_after : (events : List Event) → Ending (firsts_of app setup events) (world_after app (opened app.cell_count setup) events)
+  ending_after events = firsts_kept app (Standing app) Ending (standing_kept app) (ending_kept app) events (opened app.cell_count setup) [] start (opened_ending app setup hold some)
+
+  pub leases_hold : (events : List Event) → Leases (firsts_of app setup events) (world_after app (opened app.cell_count setup) events)
+  leases_hold events =
+      leases_now app (world_after app (opened app.cell_count setup) events) (firsts_of app setup events) (run_kept app (Standing app) (standing_kept app) events (opened app.cell_count setup) start) (ending_after events)

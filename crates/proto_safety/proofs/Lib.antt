@@ -136,3 +136,4 @@ pub mod WorldSizes
 pub mod EventCounts
 pub mod NodesSay
 pub mod LinkedSizes
+pub mod FirstsOnce

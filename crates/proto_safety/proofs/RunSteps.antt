@@ -22,6 +22,7 @@ use Rattle.proto_safety.proofs.Acts.{Fits, act_fits}
 use Rattle.proto_safety.proofs.ClockSums.{take_one_more, take_all_there, after_one_more}
 use Rattle.proto_safety.proofs.Induction.{Keeps, event_kept}
 use Rattle.proto_safety.proofs.Places.{get-set_same, prefix_same, prefix_push, prefix_trans}
+use Rattle.proto_safety.proofs.WorldFirsts.{set_other}
 
 -- ---- one event
 
@@ -177,14 +178,6 @@ pub data CameTo (app : Application) (w x : World) (s : ℕ) (node : SwitchNode) 
       (input : Input) → slice_get x.switches s ≡ Some (record node { state = (switch_step app node.state node.clock input).0 }) → x.frames ≡ w.frames ++ (switch_step app node.state node.clock input).1.sent →
       x.history.released ≡ w.history.released ++ added (λ (o : Output). record { event = x.event; output = o }) (switch_step app node.state node.clock input).1.released → CameTo app w x s node
 
--- another place of a list
-set_other : {A : Type 0} (xs : List A) (n m : ℕ) (x : A) → n ≢ m → slice_get (set xs n x) m ≡ slice_get xs m
-set_other [] n m x ne = refl
-set_other (y ∷ ys) zero zero x ne = absurd (ne refl)
-set_other (y ∷ ys) zero (suc m) x ne = refl
-set_other (y ∷ ys) (suc n) zero x ne = refl
-set_other (y ∷ ys) (suc n) (suc m) x ne = set_other ys n m x (λ e. ne (ap (λ k. suc k) e))
-
 advanced_there : (ss : List SwitchNode) (by : List ℕ) (s : ℕ) (node : SwitchNode) → slice_get ss s ≡ Some node → (other : SwitchNode) × ((slice_get (advanced_switches ss by) s ≡ Some other) × (other.state ≡ node.state))
 advanced_there [] by s node at = cc
 advanced_there (x ∷ xs) [] s node at = (node, (at, refl))
@@ -211,7 +204,7 @@ module _ (app : Application) (w : World) (s : ℕ) (node : SwitchNode) (at : sli
           (ap (λ l. l ++ (switch_step app node.state node.clock input).1.sent) frames)
           (ap (λ l. l ++ added (λ (o : Output). record { event = v.event; output = o }) (switch_step app node.state node.clock input).1.released) released))
       own_case false ne =
-          rests node (set_other v.switches n s _ (λ e. both_ways _ ne (eq-eqb n s e)) ∙ (ap (λ l. slice_get l s) switches ∙ at)) refl (subst (λ l. IsPrefix w.frames (l ++ (switch_step app other.state other.clock input).1.sent)) (sym frames) (prefix_push w.frames _))
+          rests node (set_other v.switches n s _ (λ e. both_ways _ ne (eq-eqb n s (sym e))) ∙ (ap (λ l. slice_get l s) switches ∙ at)) refl (subst (λ l. IsPrefix w.frames (l ++ (switch_step app other.state other.clock input).1.sent)) (sym frames) (prefix_push w.frames _))
 
   stored : (v : World) (n : ℕ) (input : Input) (o : Option ReplicaNode) → v.switches ≡ w.switches → v.frames ≡ w.frames → CameTo app w (replica_takes v n input o).0 s node
   stored v n input None switches frames = rests node (ap (λ l. slice_get l s) switches ∙ at) refl (rw frames (prefix_same w.frames))

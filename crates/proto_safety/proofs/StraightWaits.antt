@@ -2,6 +2,7 @@
 use Rattle.std.proofs.Common.{◌≡◌, ◌≢◌, ℕ, ◌+◌, ◌-◌, ◌≤◌, ◌<◌, List, [], ◌∷◌, ◌++◌, length, drop, filter, Option, Some, None, arith, refl, sym, ap, ◌∙◌, subst, inl, inr, true, false, Bool, slice_get, zero, suc, length-append, eqb-true}
 use Rattle.std.specs.Prelude.{◌==◌, ◌&&◌, option_and_then}
 use Rattle.std.proofs.lemmas.Bool.{false≢true}
+use Rattle.std.proofs.lemmas.List.{drop-append-le}
 use Rattle.std.proofs.lemmas.List.Elements.{filter-append}
 use Rattle.rp_base.specs.declared.node.Output.{Output}
 use Rattle.proto_data.specs.declared.message.Msg.{Msg}
@@ -39,11 +40,6 @@ each_front : {A : Type 0} (P : A → Type 0) (xs ys : List A) → Each P (xs ++ 
 each_front P [] ys h = tt
 each_front P (x ∷ xs) ys h = (h.0, each_front P xs ys h.1)
 
-drop_front : {A : Type 0} (n : ℕ) (xs ys : List A) → n ≤ length xs → drop n (xs ++ ys) ≡ drop n xs ++ ys
-drop_front zero xs ys le = refl
-drop_front (suc n) [] ys le = absurd (omega (arith, le))
-drop_front (suc n) (x ∷ xs) ys le = drop_front n xs ys (omega (arith, le))
-
 entered_more : (s : ℕ) (key : Key) (xs ys : List Msg) → entered s key (xs ++ ys) ≡ entered s key xs + entered s key ys
 entered_more s key xs ys =
     ap length (filter-append (λ (m : Msg). from_switch s m.from && enters_held key m.from m.body) xs ys)
@@ -51,7 +47,7 @@ entered_more s key xs ys =
 
 -- later marks, with more frames
 marks_more : (s : ℕ) (key : Key) (frame : ℕ) (xs ys : List Msg) → frame < length xs → entered s key (drop (frame + 1) (xs ++ ys)) ≡ entered s key (drop (frame + 1) xs) + entered s key ys
-marks_more s key frame xs ys lt = ap (entered s key) (drop_front (frame + 1) xs ys (omega (arith, lt))) ∙ entered_more s key (drop (frame + 1) xs) ys
+marks_more s key frame xs ys lt = ap (entered s key) (drop-append-le (frame + 1) xs ys (omega (arith, lt))) ∙ entered_more s key (drop (frame + 1) xs) ys
 
 -- ---- one event
 

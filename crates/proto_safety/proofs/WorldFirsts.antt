@@ -1,5 +1,5 @@
 -- In strict mode, with the list of first sendings: each request of a switch is there, its entry is no older at a store than within the ratio of its first sending.
-use Rattle.std.proofs.Common.{◌≡◌, ◌≢◌, ◌⊎◌, inl, inr, ℕ, ◌+◌, ◌*◌, ◌≤◌, List, [], ◌∷◌, ◌++◌, drop, length, map, Option, Some, None, refl, sym, ap, ◌∙◌, subst, true, set, slice_get, arith, append-nil, zero, suc, Bool, false, eqb-true, eq-eqb}
+use Rattle.std.proofs.Common.{◌≡◌, ◌≢◌, ◌⊎◌, inl, inr, ℕ, ◌+◌, ◌≤◌, List, [], ◌∷◌, ◌++◌, length, map, Option, Some, None, refl, sym, ap, ◌∙◌, subst, true, set, slice_get, arith, zero, suc, Bool, false, eqb-true, eq-eqb}
 use Rattle.std.specs.Prelude.{◌==◌}
 use Rattle.std.proofs.lemmas.Bool.{false≢true}
 use Rattle.rp_base.specs.declared.node.Node.{Node}
@@ -9,19 +9,16 @@ use Rattle.proto_data.specs.declared.message.Entry.{Entry}
 use Rattle.proto_data.specs.declared.message.Input.{Input}
 use Rattle.proto_data.specs.declared.message.Carried.{Carried}
 use Rattle.proto_data.specs.declared.terms.Mode.{Mode}
-use Rattle.rp_base.specs.declared.node.Packet.{Packet}
 use Rattle.rp_app.specs.Application.{Application}
 use Rattle.proto_model.specs.Clocks.{Aged, clocks, switch_clock, replica_clock}
 use Rattle.proto_model.specs.Table.{Key}
-use Rattle.proto_model.specs.Slot.{Slot, Asking, epoch_of}
-use Rattle.proto_model.specs.SwitchState.{Switch, slot_at}
+use Rattle.proto_model.specs.SwitchState.{Switch}
 use Rattle.proto_model.specs.SwitchRows.{switch_step}
 use Rattle.proto_model.specs.Records.{Booked}
 use Rattle.proto_model.specs.Feeds.{Each}
-use Rattle.proto_model.specs.Stands.{entries_of}
 use Rattle.proto_model.specs.World.{World, Journaled, SwitchNode, ReplicaNode}
-use Rattle.proto_safety.specs.Books.{In, lives, committed_of}
-use Rattle.proto_safety.specs.Origins.{AskSent, PutSent, SnapSent, ChunkSent, Origin}
+use Rattle.proto_safety.specs.Books.{In, committed_of}
+use Rattle.proto_safety.specs.Origins.{AskSent, ChunkSent, Origin}
 use Rattle.proto_safety.specs.LeaseLaws.{Request, AskOf, NumberOf, First, IsEntryOf}
 use Rattle.proto_safety.specs.Firsts.{request_of, with_sent}
 use Rattle.proto_safety.specs.SwitchSent.{SentNow as SaidNow}
@@ -29,16 +26,16 @@ use Rattle.proto_safety.proofs.FirstSendings.{Made, SentNow, sent_keeps, sent_wa
 use Rattle.proto_safety.proofs.StrictSends.{NoSnap, NoSnaps, step_no_snap}
 use Rattle.proto_safety.proofs.SlotFirsts.{NodeFirsts, Counted, Untouched}
 use Rattle.proto_safety.proofs.SwitchFirsts.{step_firsts}
-use Rattle.proto_safety.proofs.SwitchSays.{Tidy, step_says}
+use Rattle.proto_safety.proofs.SwitchSays.{step_says}
 use Rattle.proto_safety.proofs.SwitchTable.{msg}
-use Rattle.proto_safety.proofs.Places.{at_set, at_changed}
+use Rattle.proto_safety.proofs.Places.{at_set}
 use Rattle.proto_safety.proofs.Lists.{each_append, map-set_same}
 use Rattle.std.proofs.lemmas.List.{length-set}
 use Rattle.proto_safety.proofs.Chains.{each_in}
 use Rattle.proto_safety.proofs.FlowAlarm.{in_append, to_append}
 use Rattle.proto_safety.proofs.FlowBooks.{in_front}
 use Rattle.proto_safety.proofs.BookEpochs.{one_grant}
-use Rattle.proto_safety.proofs.WorldPuts.{PutFrame, GrantOf, Known, PutsFit, set_at}
+use Rattle.proto_safety.proofs.WorldPuts.{PutFrame, Known, PutsFit, set_at}
 use Rattle.proto_safety.proofs.Clocks.{AgedIn}
 use Rattle.proto_safety.proofs.Tables.{same_some}
 
@@ -110,7 +107,7 @@ same_or a b = or_case (a == b) refl
     or_case true t = inl (eqb-true a b t)
     or_case false t = inr (λ e. false≢true (sym t ∙ eq-eqb a b e))
 
-set_other : {A : Type 0} (xs : List A) (n k : ℕ) (y : A) → k ≢ n → slice_get (set xs n y) k ≡ slice_get xs k
+pub set_other : {A : Type 0} (xs : List A) (n k : ℕ) (y : A) → k ≢ n → slice_get (set xs n y) k ≡ slice_get xs k
 set_other [] n k y ne = refl
 set_other (x ∷ xs) zero zero y ne = absurd (ne refl)
 set_other (x ∷ xs) zero (suc k) y ne = refl

@@ -1,5 +1,5 @@
 -- What the protocol promises of leases. A request is an Ask's nonce, a Put's number or a round; `firsts` are the first sendings of all that were made.
-use Rattle.std.specs.Prelude.{◌⊎◌, ℕ, ◌≡◌, ◌≤◌, ◌<◌, ◌+◌, true, false, List, ◌∷◌, ◌++◌, Option, Some, length, slice_get}
+use Rattle.std.specs.Prelude.{◌⊎◌, ℕ, ◌≡◌, ◌≤◌, ◌<◌, ◌+◌, false, List, ◌∷◌, ◌++◌, Option, Some, length, slice_get}
 use Rattle.proto_data.specs.declared.message.Entry.{Entry}
 use Rattle.proto_model.specs.Table.{Key}
 use Rattle.proto_model.specs.Slot.{Slot, Lease, Idle, Asking, Held, Lapsed, is_young}
@@ -33,10 +33,9 @@ HasEpoch key epoch (Entry.Grant k e switch inc nonce) = (k ≡ key) × (e ≡ ep
 HasEpoch key epoch (Entry.Put k e number delta) = (k ≡ key) × (e ≡ epoch)
 HasEpoch key epoch (Entry.Snap k e round cells) = (k ≡ key) × (e ≡ epoch)
 
--- switch n has this slot of the flow
+-- switch n, which may have failed, has this slot of the flow
 pub record SlotAt (w : World) (n : ℕ) (key : Key) (node : SwitchNode) (slot : Slot) : Type 0 where
   pub at : slice_get w.switches n ≡ Some node
-  pub up : node.runs ≡ true
   pub found : slot_at node.state key ≡ Some slot
 
 -- (a, b) is at most (c, d)
@@ -86,11 +85,11 @@ pub record NonceAt (o : Option Slot) (k : ℕ) : Type 0 where
 abbrev pub ClockPast : World → ℕ → ℕ → Type 0
 ClockPast w n moment = (node : SwitchNode) → slice_get w.switches n ≡ Some node → moment ≤ node.clock
 
--- a Grant of the next epoch, as it stands in a running replica's book behind the Grant of this one
+-- a Grant of the next epoch, as it stands in a replica's book behind the Grant of this one; the replica may have failed
 pub record HandedOver (w : World) (key : Key) (epoch switch inc nonce next_switch next_inc next_nonce : ℕ) (before : List Entry) : Type 0 where
   pub replica : ℕ
   pub node : ReplicaNode
-  pub runs : Runs w replica node
+  pub at : slice_get w.replicas replica ≡ Some node
   pub behind : List Entry
   pub book_is : entries_of node.book ≡ before ++ Entry.Grant key (epoch + 1) next_switch next_inc next_nonce ∷ behind
   pub granted : In before (Entry.Grant key epoch switch inc nonce)

@@ -18,3 +18,4 @@ pub mod SwitchTable
 pub mod StoreTable
 pub mod StoreSent
 pub mod NeededPremises
+pub mod FirstLaws
