@@ -7,3 +7,4 @@ pub mod Operands
 pub mod Levels
 pub mod Called
 pub mod Alone
+pub mod Factored
