@@ -8,3 +8,4 @@ pub mod Levels
 pub mod Called
 pub mod Alone
 pub mod Factored
+pub mod Plain
