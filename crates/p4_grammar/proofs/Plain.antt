@@ -22,7 +22,7 @@ use Rattle.p4_grammar.specs.Forms.{Lang, none, only, bind, either, taken, many, 
 use Rattle.p4_grammar.specs.Tokens.{is, name, number, the_name, words, words_at, in_hand, but, one_of, is_name}
 use Rattle.p4_grammar.specs.Values.{Env, type_place, path_of, begins_lexeme, begins_operand}
 use Rattle.p4_grammar.specs.Trees.{field_of, Declared, declared_more}
-use Rattle.p4_grammar.specs.GrammarExpressions.{bool_type, std_type, name_type, word_type, type_, path, slice, expr, expression, expressions, args}
+use Rattle.p4_grammar.specs.GrammarExpressions.{bit_type, bool_type, std_type, name_type, word_type, type_, path, slice, expr, expression, expressions, args}
 use Rattle.p4_grammar.specs.GrammarStatements.{outcome_, var, slice_or_none}
 use Rattle.p4_grammar.specs.Grammar.{field, fields, header, struct_, typedef, const_, declaration_, param, match_, key, keys, act, acts, call, size, flow_cell, flow_array, closed_type, typed, typed_list, last_param, emit, deparser, instance_, package_}
 use Rattle.p4_grammar.specs.ReadingExpressions.{type_at, word_type_at, expr_at, expression_at, expressions_at, args_at}
@@ -107,3 +107,190 @@ unfolding args args_at
 args-reads {n = n} env = words-reads (sign.Open ∷ []) (choose-reads (in_hand sign.Close) (words-reads (sign.Close ∷ []) (done-reads n free []))
     (behind-reads (expressions-reads env) (λ xs. sign_begins sign.Close (λ at e. refl)) (λ xs. words-reads (sign.Close ∷ []) (done-reads n free xs)))
     (sign_begins sign.Close (λ at e. refl)) (begins_bind (not_close (expressions_begins env))))
+
+-- ---- repetitions up to a sign
+
+pub listed-reads : {A B : Type 0} {n : ℕ} {D U : Lang A} {p : Reader A} {D2 U2 : List A → Lang B} {E2 : B → Token → Bool} {f : List A → Reader B} (s : Sign) → ((at e : ℕ) → but s (tok at e (lexeme.Sign s)) ≡ false) → Reads n D U free p → Begins true (but s) D → Begins true (but s) U → ((xs : List A) → Reads n (D2 xs) (U2 xs) E2 (f xs)) → Reads n (bind (many D) λ xs. words (s ∷ []) (D2 xs)) (bind (many U) λ xs. words (s ∷ []) (U2 xs)) E2 (bind_at (many_at n (but s) p) λ xs. words_at (s ∷ []) (f xs))
+listed-reads s h r b c k = behind-reads (list-reads (but s) r b c) (λ xs. sign_begins s h) (λ xs. words-reads (s ∷ []) (k xs))
+
+-- ---- declarations
+
+pub field-reads : {n : ℕ} → Reads n field field free field_at
+unfolding field field_at
+field-reads {n = n} = then-reads type-reads λ t. named-reads λ x. words-reads (sign.Semicolon ∷ []) (done-reads n free (field_of t x))
+
+field_goes : Begins true (but sign.CloseBrace) field
+unfolding field
+field_goes = begins_bind (type_begins (λ at e. refl) (λ at e. refl) (λ at e. refl) (λ at e t. refl))
+
+pub fields-reads : {n : ℕ} → Reads n fields fields free (fields_at n)
+unfolding fields fields_at
+fields-reads {n = n} = words-reads (sign.OpenBrace ∷ []) (listed-reads sign.CloseBrace (λ at e. refl) field-reads field_goes field_goes λ fs. done-reads n free fs)
+
+pub header-reads : {n : ℕ} → Reads n header header free (header_at n)
+unfolding header header_at
+header-reads {n = n} = sign-reads sign.Header λ at. named-reads λ x. then-reads fields-reads λ fs. done-reads n free (record { at = at; name = x; fields = fs })
+
+pub struct-reads : {n : ℕ} → Reads n struct_ struct_ free (struct_at n)
+unfolding struct_ struct_at
+struct-reads {n = n} = sign-reads sign.Struct λ at. named-reads λ x. then-reads fields-reads λ fs. done-reads n free (record { at = at; name = x; fields = fs })
+
+pub typedef-reads : {n : ℕ} → Reads n typedef typedef free typedef_at
+unfolding typedef typedef_at
+typedef-reads {n = n} = sign-reads sign.Typedef λ at. then-reads type-reads λ t. named-reads λ x. words-reads (sign.Semicolon ∷ []) (done-reads n free (record { at = at; type_ = t; name = x }))
+
+pub const-reads : {n : ℕ} (env : Env) → Reads n (const_ env) (const_ env) free (const_at n env)
+unfolding const_ const_at
+const-reads {n = n} env = sign-reads sign.Const λ at. then-reads type-reads λ t. named-reads λ x. words-reads (sign.Assign ∷ []) (closed_by-reads env sign.Semicolon (λ i e. refl) λ e. done-reads n free (record { at = at; type_ = t; name = x; expr = e }))
+
+pub const_begins : {b : Bool} {t : Token → Bool} (env : Env) → ((at e : ℕ) → t (tok at e (lexeme.Sign sign.Const)) ≡ b) → Begins b t (const_ env)
+unfolding const_
+const_begins env h = sign_begins sign.Const h
+
+header_begins : {b : Bool} {t : Token → Bool} → ((at e : ℕ) → t (tok at e (lexeme.Sign sign.Header)) ≡ b) → Begins b t header
+unfolding header
+header_begins h = sign_begins sign.Header h
+
+struct_begins : {b : Bool} {t : Token → Bool} → ((at e : ℕ) → t (tok at e (lexeme.Sign sign.Struct)) ≡ b) → Begins b t struct_
+unfolding struct_
+struct_begins h = sign_begins sign.Struct h
+
+typedef_begins : {b : Bool} {t : Token → Bool} → ((at e : ℕ) → t (tok at e (lexeme.Sign sign.Typedef)) ≡ b) → Begins b t typedef
+unfolding typedef
+typedef_begins h = sign_begins sign.Typedef h
+
+pub declaration-reads : {n : ℕ} (env : Env) → Reads n (declaration_ env) (declaration_ env) free (declaration_at n env)
+unfolding declaration_ declaration_at
+declaration-reads {n = n} env = choose-reads (in_hand sign.Header) (then-reads header-reads λ h. done-reads n free (declaration.Header h))
+    (choose-reads (in_hand sign.Struct) (then-reads struct-reads λ s. done-reads n free (declaration.Struct s))
+    (choose-reads (in_hand sign.Typedef) (then-reads typedef-reads λ t. done-reads n free (declaration.Typedef t)) (then-reads (const-reads env) λ c. done-reads n free (declaration.Const c))
+    (begins_bind (typedef_begins (λ at e. refl))) (begins_bind (const_begins env (λ at e. refl))))
+    (begins_bind (struct_begins (λ at e. refl))) (begins_either (begins_bind (typedef_begins (λ at e. refl))) (begins_bind (const_begins env (λ at e. refl)))))
+    (begins_bind (header_begins (λ at e. refl))) (begins_either (begins_bind (struct_begins (λ at e. refl))) (begins_either (begins_bind (typedef_begins (λ at e. refl))) (begins_bind (const_begins env (λ at e. refl)))))
+
+pub declaration_begins : {b : Bool} {t : Token → Bool} (env : Env) → ((at e : ℕ) → t (tok at e (lexeme.Sign sign.Header)) ≡ b) → ((at e : ℕ) → t (tok at e (lexeme.Sign sign.Struct)) ≡ b) → ((at e : ℕ) → t (tok at e (lexeme.Sign sign.Typedef)) ≡ b) → ((at e : ℕ) → t (tok at e (lexeme.Sign sign.Const)) ≡ b) → Begins b t (declaration_ env)
+unfolding declaration_
+declaration_begins env h i j k = begins_either (begins_bind (header_begins h)) (begins_either (begins_bind (struct_begins i)) (begins_either (begins_bind (typedef_begins j)) (begins_bind (const_begins env k))))
+
+-- ---- parameters
+
+pub param-reads : {n : ℕ} (s : Sign) → Reads n (param s) (param s) free (param_at s)
+unfolding param param_at
+param-reads {n = n} s = sign-reads s λ at. named-reads λ t. named-reads λ x. done-reads n free (record { at = at; type_ = t; name = x })
+
+-- an option behind which anything may stand but what it begins with
+pub last_param-reads : {n : ℕ} → Reads n last_param last_param (λ o. in_hand sign.Comma) last_param_at
+unfolding last_param last_param_at
+last_param-reads {n = n} = option-reads (in_hand sign.Comma) None (words-reads (sign.Comma ∷ []) (then-reads (param-reads sign.Inout) λ p. done-reads n _ (Some p))) (sign_begins sign.Comma (λ at e. refl)) (λ a e. e)
+
+-- ---- tables
+
+pub match-reads : {n : ℕ} → Reads n match_ match_ free match_at
+unfolding match_ match_at
+match-reads {n = n} = choose-reads (in_hand sign.Exact) (words-reads (sign.Exact ∷ []) (done-reads n free matching.Exact))
+    (choose-reads (in_hand sign.Lpm) (words-reads (sign.Lpm ∷ []) (done-reads n free matching.Lpm)) (words-reads (sign.Ternary ∷ []) (done-reads n free matching.Ternary)) (sign_begins sign.Lpm (λ at e. refl)) (sign_begins sign.Ternary (λ at e. refl)))
+    (sign_begins sign.Exact (λ at e. refl)) (begins_either (sign_begins sign.Lpm (λ at e. refl)) (sign_begins sign.Ternary (λ at e. refl)))
+
+never_by : (b : Bool) → cond b false false ≡ false
+never_by true = refl
+never_by false = refl
+
+pub key-reads : {n : ℕ} (env : Env) → Reads n (key env) (key env) free (key_of_at n env)
+unfolding key key_of_at
+key-reads {n = n} env = behind-reads (expr-reads env) (λ x. sign_begins sign.Colon (λ at e. never_by _)) λ x. words-reads (sign.Colon ∷ []) (then-reads match-reads λ m. words-reads (sign.Semicolon ∷ []) (done-reads n free (record { at = x.at; expr = x.expr; matching = m })))
+
+operand_brace : (l : Lexeme) → begins_lexeme l ≡ true → but sign.CloseBrace (tok 0 0 l) ≡ true
+operand_brace (lexeme.Name t) e = refl
+operand_brace (lexeme.Number v w) e = refl
+operand_brace (lexeme.Sign sign.CloseBrace) e = absurd cc
+operand_brace (lexeme.Sign s) e = refl
+
+brace_same : (at e : ℕ) (l : Lexeme) → but sign.CloseBrace (tok at e l) ≡ but sign.CloseBrace (tok 0 0 l)
+brace_same at e (lexeme.Name t) = refl
+brace_same at e (lexeme.Number v w) = refl
+brace_same at e (lexeme.Sign sign.CloseBrace) = refl
+brace_same at e (lexeme.Sign s) = refl
+
+pub operand_goes : {A : Type 0} {L : Lang A} → Begins true begins_operand L → Begins true (but sign.CloseBrace) L
+operand_goes {L = L} h = begins_map true begins_operand (but sign.CloseBrace) L (λ a e. brace_same a.at a.end a.lexeme ∙ operand_brace a.lexeme e) h
+
+key_goes : (env : Env) → Begins true (but sign.CloseBrace) (key env)
+unfolding key
+key_goes env = begins_bind (operand_goes (expr-begins env))
+
+pub keys-reads : {n : ℕ} (env : Env) → Reads n (keys env) (keys env) free (keys_at n env)
+unfolding keys keys_at
+keys-reads {n = n} env = sign-reads sign.Key λ at. words-reads (sign.Assign ∷ sign.OpenBrace ∷ []) (listed-reads sign.CloseBrace (λ i e. refl) (key-reads env) (key_goes env) (key_goes env) λ ks. done-reads n free (record { at = at; keys = ks }))
+
+pub act-reads : {n : ℕ} → Reads n act act free act_at
+unfolding act act_at
+act-reads {n = n} = named-reads λ x. words-reads (sign.Semicolon ∷ []) (done-reads n free x)
+
+act_goes : Begins true (but sign.CloseBrace) act
+unfolding act
+act_goes = name_begins (λ at e t. refl)
+
+pub acts-reads : {n : ℕ} → Reads n acts acts free (acts_at n)
+unfolding acts acts_at
+acts-reads {n = n} = sign-reads sign.Actions λ at. words-reads (sign.Assign ∷ sign.OpenBrace ∷ []) (listed-reads sign.CloseBrace (λ i e. refl) act-reads act_goes act_goes λ xs. done-reads n free (record { at = at; names = xs }))
+
+args_begin : (env : Env) → Begins true (in_hand sign.Open) (args env)
+unfolding args
+args_begin env = sign_begins sign.Open (λ at e. refl)
+
+pub call-reads : {n : ℕ} (env : Env) → Reads n (call env) (call env) (λ c. in_hand sign.Open) (call_at n env)
+unfolding call call_at
+call-reads {n = n} env = named-reads λ x. option-reads (in_hand sign.Open) (record { at = x.at; name = x; args = [] }) (then-reads (args-reads env) λ xs. done-reads n _ (record { at = x.at; name = x; args = xs })) (begins_bind (args_begin env)) (λ a e. e)
+
+pub size-reads : {n : ℕ} → Reads n size size free size_at
+unfolding size size_at
+size-reads {n = n} = sign-reads sign.Size λ at. words-reads (sign.Assign ∷ []) (numbered-reads λ k. words-reads (sign.Semicolon ∷ []) (done-reads n free (record { at = at; number = k })))
+
+-- ---- the deparser and the package
+
+pub emit-reads : {n : ℕ} → Reads n emit emit free (emit_at n)
+unfolding emit emit_at
+emit-reads {n = n} = named-reads λ x. words-reads (sign.Dot ∷ []) (then-reads (the_name-reads (codes "emit") refl) λ i. words-reads (sign.Open ∷ []) (behind-reads path-reads (λ q. sign_begins sign.Close (λ at e. refl)) λ q. words-reads (sign.Close ∷ sign.Semicolon ∷ []) (done-reads n free (record { at = x.at; name = x; path = path_of q }))))
+
+emit_goes : Begins true (but sign.CloseBrace) emit
+unfolding emit
+emit_goes = name_begins (λ at e t. refl)
+
+pub deparser-reads : {n : ℕ} → Reads n deparser deparser free (deparser_at n)
+unfolding deparser deparser_at
+deparser-reads {n = n} = sign-reads sign.Control λ at. named-reads λ x. words-reads (sign.Open ∷ sign.PacketOut ∷ []) (named-reads λ p. words-reads (sign.Comma ∷ []) (then-reads (param-reads sign.In) λ h. words-reads (sign.Close ∷ sign.OpenBrace ∷ sign.Apply ∷ sign.OpenBrace ∷ []) (listed-reads sign.CloseBrace (λ i e. refl) emit-reads emit_goes emit_goes λ es. words-reads (sign.CloseBrace ∷ []) (done-reads n free (record { at = at; name = x; packet = p; headers = h; emits = es })))))
+
+pub instance-reads : {n : ℕ} → Reads n instance_ instance_ free instance_at
+unfolding instance_ instance_at
+instance-reads {n = n} = named-reads λ x. words-reads (sign.Open ∷ sign.Close ∷ []) (done-reads n free x)
+
+pub package-reads : {n : ℕ} → Reads n package_ package_ free package_at
+unfolding package_ package_at
+package-reads {n = n} = sign-reads sign.RpSwitch λ at. words-reads (sign.Open ∷ []) (then-reads instance-reads λ p. words-reads (sign.Comma ∷ []) (then-reads instance-reads λ i. words-reads (sign.Comma ∷ []) (then-reads instance-reads λ d. words-reads (sign.Close ∷ []) (then-reads (the_name-reads (codes "main") refl) λ m. words-reads (sign.Semicolon ∷ []) (done-reads n free (record { at = at; parser = p; ingress = i; deparser = d }))))))
+
+-- ---- cells, actions' parameters, variables
+
+cell_shuffle : {A : Type 0} {L M N O P : Lang A} → Same (either (either (either L (either M N)) O) P) (either (either L P) (either M (either N O)))
+cell_shuffle {A = A} {L = L} {M = M} {N = N} {O = O} {P = P} = record { to = to; back = back } where
+  to : (x : A) (u : List Token) → ((L x u ⊎ (M x u ⊎ N x u)) ⊎ O x u) ⊎ P x u → (L x u ⊎ P x u) ⊎ (M x u ⊎ (N x u ⊎ O x u))
+  to x u (inl (inl (inl d))) = inl (inl d)
+  to x u (inl (inl (inr (inl d)))) = inr (inl d)
+  to x u (inl (inl (inr (inr d)))) = inr (inr (inl d))
+  to x u (inl (inr d)) = inr (inr (inr d))
+  to x u (inr d) = inl (inr d)
+  back : (x : A) (u : List Token) → (L x u ⊎ P x u) ⊎ (M x u ⊎ (N x u ⊎ O x u)) → ((L x u ⊎ (M x u ⊎ N x u)) ⊎ O x u) ⊎ P x u
+  back x u (inl (inl d)) = inl (inl (inl d))
+  back x u (inl (inr d)) = inr d
+  back x u (inr (inl d)) = inl (inl (inr (inl d)))
+  back x u (inr (inr (inl d))) = inl (inl (inr (inr d)))
+  back x u (inr (inr (inr d))) = inl (inr d)
+
+-- the two ends of a "bit" type share a front
+bit_end : ℕ → P4Number → Lang P4Type
+bit_end at k = either (words (sign.More ∷ sign.More ∷ []) (only (type.Bit at k))) (words (sign.ShiftRight ∷ []) (only (type.Bit at k)))
+
+and_more : Lang P4Type → Lang P4Type
+and_more L = bind L λ t. words (sign.More ∷ []) (only t)
+
+fclosed : Lang P4Type
+fclosed = either (bind (taken (is sign.Bit)) λ at. words (sign.Less ∷ []) (bind (taken number) λ k. bit_end at k)) (either (and_more bool_type) (either (and_more std_type) (and_more name_type)))
