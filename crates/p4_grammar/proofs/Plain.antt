@@ -19,7 +19,7 @@ use Rattle.p4_ast.specs.declared.table.P4Match.TheVariants as matching
 use Rattle.p4_ast.specs.declared.statement.P4Outcome.TheVariants as outcome
 use Rattle.p4_grammar.specs.declared.mark.Spelled.{Spelled}
 use Rattle.p4_grammar.specs.Forms.{Lang, none, only, bind, either, taken, many, Reader, done_at, bind_at, taken_at, hand, either_at, many_at, is_given, Spells}
-use Rattle.p4_grammar.specs.Tokens.{is, name, number, the_name, words, words_at, in_hand, but, one_of, is_name}
+use Rattle.p4_grammar.specs.Tokens.{is, name, number, the_name, text_of, words, words_at, in_hand, but, one_of, is_name}
 use Rattle.p4_grammar.specs.Values.{Env, type_place, path_of, begins_lexeme, begins_operand}
 use Rattle.p4_grammar.specs.Trees.{field_of, Declared, declared_more}
 use Rattle.p4_grammar.specs.GrammarExpressions.{bit_type, bool_type, std_type, name_type, word_type, type_, path, slice, expr, expression, expressions, args}
@@ -31,9 +31,11 @@ use Rattle.p4_grammar.specs.Reading.{field_at, fields_at, header_at, struct_at, 
 use Rattle.p4_grammar.proofs.Languages.{Same, same, flip, same_bind, same_either, assoc, dist, factor, bind_only, swap, turn, same_words, words_bind, factor_words, ◌then◌}
 use Rattle.p4_grammar.proofs.Forms.{IsEnd, Reads, bind-reads, done-reads, fits, either-reads}
 use Rattle.p4_grammar.proofs.Basics.{free, is_free, tok, then-reads, name-reads, number-reads, the_name-reads, words-reads, sign-reads, named-reads, numbered-reads, Begins, begins_taken, begins_bind, begins_either, begins_any, choose-reads, said, by_sign, by_name, by_text, sign_begins, name_begins, number_begins, list-reads, list_to-reads, behind-reads}
-use Rattle.p4_grammar.proofs.Facts.{V, ends_all, all_ends, is_read}
+use Rattle.p4_grammar.proofs.Facts.{test_true, V, ends_all, all_ends, is_read}
 use Rattle.p4_grammar.proofs.Expressions.{type-reads, type_begins, bool_type-reads, std_type-reads, name_type-reads, name_type_begins, path-reads, slice-reads, slice_begins, apart_only, option-reads, hand_end, end_end, begins_map}
 use Rattle.p4_grammar.proofs.Levels.{apart_both}
+use Rattle.p4_grammar.proofs.Operands.{same_bytes}
+use Rattle.std.specs.Str.{bytes_eq}
 use Rattle.p4_grammar.proofs.Factored.{expr-reads, expr-begins}
 
 -- ---- lists of expressions
@@ -294,3 +296,99 @@ and_more L = bind L λ t. words (sign.More ∷ []) (only t)
 
 fclosed : Lang P4Type
 fclosed = either (bind (taken (is sign.Bit)) λ at. words (sign.Less ∷ []) (bind (taken number) λ k. bit_end at k)) (either (and_more bool_type) (either (and_more std_type) (and_more name_type)))
+
+bool_begins : {b : Bool} {t : Token → Bool} → ((at e : ℕ) → t (tok at e (lexeme.Sign sign.Bool)) ≡ b) → Begins b t bool_type
+unfolding bool_type
+bool_begins h = sign_begins sign.Bool h
+
+std_begins : {b : Bool} {t : Token → Bool} → ((at e : ℕ) → t (tok at e (lexeme.Sign sign.StdT)) ≡ b) → Begins b t std_type
+unfolding std_type
+std_begins h = sign_begins sign.StdT h
+
+more-reads : {n : ℕ} {D U : Lang P4Type} {p : Reader P4Type} → Reads n D U free p → Reads n (and_more D) (and_more U) free (bind_at p λ t. words_at (sign.More ∷ []) (done_at t))
+unfolding and_more
+more-reads {n = n} h = then-reads h λ t. words-reads (sign.More ∷ []) (done-reads n free t)
+
+bit_end-reads : {n : ℕ} (at : ℕ) (k : P4Number) → Reads n (bit_end at k) (bit_end at k) free (bit_closed_at at k)
+unfolding bit_end bit_closed_at
+bit_end-reads {n = n} at k = choose-reads (in_hand sign.More) (words-reads (sign.More ∷ sign.More ∷ []) (done-reads n free (type.Bit at k))) (words-reads (sign.ShiftRight ∷ []) (done-reads n free (type.Bit at k))) (sign_begins sign.More (λ at e. refl)) (sign_begins sign.ShiftRight (λ at e. refl))
+
+fclosed-reads : {n : ℕ} → Reads n fclosed fclosed free closed_type_at
+unfolding fclosed closed_type_at and_more
+fclosed-reads {n = n} = choose-reads (in_hand sign.Bit) (sign-reads sign.Bit λ at. words-reads (sign.Less ∷ []) (numbered-reads λ k. bit_end-reads at k))
+    (choose-reads (in_hand sign.Bool) (more-reads bool_type-reads)
+    (choose-reads (in_hand sign.StdT) (more-reads std_type-reads) (more-reads name_type-reads) (begins_bind (std_begins (λ at e. refl))) (begins_bind (name_type_begins (λ at e t. refl))))
+    (begins_bind (bool_begins (λ at e. refl))) (begins_either (begins_bind (std_begins (λ at e. refl))) (begins_bind (name_type_begins (λ at e t. refl)))))
+    (sign_begins sign.Bit (λ at e. refl)) (begins_either (begins_bind (bool_begins (λ at e. refl))) (begins_either (begins_bind (std_begins (λ at e. refl))) (begins_bind (name_type_begins (λ at e t. refl)))))
+
+closed-same : Same closed_type fclosed
+unfolding closed_type fclosed type_ word_type bit_type and_more bit_end
+closed-same =
+    same_either (dist then same_either (dist then same_either
+    (assoc then same_bind same (λ at. words_bind (sign.Less ∷ []) _ _ then same_words (sign.Less ∷ []) (assoc then same_bind same (λ k. words_bind (sign.More ∷ []) _ _ then same_words (sign.More ∷ []) bind_only))))
+    dist) same) same
+    then cell_shuffle then same_either (factor then same_bind same (λ at. factor_words (sign.Less ∷ []) _ _ then same_words (sign.Less ∷ []) factor)) same
+
+pub closed_type-reads : {n : ℕ} → Reads n closed_type closed_type free closed_type_at
+closed_type-reads = said fclosed-reads closed-same closed-same
+
+pub flow_cell-reads : {n : ℕ} → Reads n flow_cell flow_cell free flow_cell_at
+unfolding flow_cell flow_cell_at
+flow_cell-reads {n = n} = sign-reads sign.FlowCell λ at. words-reads (sign.Less ∷ []) (then-reads closed_type-reads λ t. words-reads (sign.Open ∷ sign.Close ∷ []) (named-reads λ x. words-reads (sign.Semicolon ∷ []) (done-reads n free (cell.Cell at t x))))
+
+pub flow_array-reads : {n : ℕ} → Reads n flow_array flow_array free flow_array_at
+unfolding flow_array flow_array_at
+flow_array-reads {n = n} = sign-reads sign.FlowArray λ at. words-reads (sign.Less ∷ []) (then-reads closed_type-reads λ t. words-reads (sign.Open ∷ []) (numbered-reads λ k. words-reads (sign.Close ∷ []) (named-reads λ x. words-reads (sign.Semicolon ∷ []) (done-reads n free (cell.Array at t k x)))))
+
+pub typed-reads : {n : ℕ} → Reads n typed typed free typed_at
+unfolding typed typed_at
+typed-reads {n = n} = then-reads type-reads λ t. named-reads λ x. done-reads n free (field_of t x)
+
+typed_begins : Begins false (in_hand sign.Close) typed
+unfolding typed
+typed_begins = begins_bind (type_begins (λ at e. refl) (λ at e. refl) (λ at e. refl) (λ at e t. refl))
+
+pub typed_list-reads : {n : ℕ} → Reads n typed_list typed_list free (typed_list_at n)
+unfolding typed_list typed_list_at
+typed_list-reads {n = n} = words-reads (sign.Open ∷ []) (choose-reads (in_hand sign.Close) (words-reads (sign.Close ∷ []) (done-reads n free []))
+    (then-reads typed-reads λ p. behind-reads (list-reads (in_hand sign.Comma) (words-reads (sign.Comma ∷ []) typed-reads) (sign_begins sign.Comma (λ at e. refl)) (sign_begins sign.Comma (λ at e. refl))) (λ ps. sign_begins sign.Close (λ at e. refl)) λ ps. words-reads (sign.Close ∷ []) (done-reads n free (p ∷ ps)))
+    (sign_begins sign.Close (λ at e. refl)) (begins_bind typed_begins))
+
+pub var_rest : Env → P4Type → P4Name → Lang P4Var
+var_rest env t x = either (words (sign.Assign ∷ []) (bind (expression env) λ e. words (sign.Semicolon ∷ []) (only (record { at = type_place t; type_ = t; name = x; expr = Some e })))) (words (sign.Semicolon ∷ []) (only (record { at = type_place t; type_ = t; name = x; expr = None })))
+
+pub var_rest-reads : {n : ℕ} (env : Env) (t : P4Type) (x : P4Name) → Reads n (var_rest env t x) (var_rest env t x) free (var_rest_at n env (type_place t) t x)
+unfolding var_rest var_rest_at
+var_rest-reads {n = n} env t x = choose-reads (in_hand sign.Assign)
+    (words-reads (sign.Assign ∷ []) (closed_by-reads env sign.Semicolon (λ i e. refl) λ e. done-reads n free (record { at = type_place t; type_ = t; name = x; expr = Some e })))
+    (words-reads (sign.Semicolon ∷ []) (done-reads n free (record { at = type_place t; type_ = t; name = x; expr = None })))
+    (sign_begins sign.Assign (λ at e. refl)) (sign_begins sign.Semicolon (λ at e. refl))
+
+-- variables of types that one reader finds
+pub var_of-reads : {n : ℕ} {T : Lang P4Type} {p : Reader P4Type} (env : Env) → Reads n T T free p → Reads n (bind T λ t. bind (taken name) λ x. var_rest env t x) (bind T λ t. bind (taken name) λ x. var_rest env t x) free (var_at n env p)
+unfolding var_at
+var_of-reads env h = then-reads h λ t. named-reads λ x. var_rest-reads env t x
+
+pub var-is : (env : Env) → Same (var env) (bind type_ λ t. bind (taken name) λ x. var_rest env t x)
+unfolding var var_rest
+var-is env = same
+
+pub var-reads : {n : ℕ} (env : Env) → Reads n (var env) (var env) free (var_at n env type_at)
+var-reads env = said (var_of-reads env type-reads) (var-is env) (var-is env)
+
+pub slice_or_none-reads : {n : ℕ} → Reads n slice_or_none slice_or_none (λ o. in_hand sign.OpenSlice) slice_or_none_at
+unfolding slice_or_none slice_or_none_at
+slice_or_none-reads {n = n} = option-reads (in_hand sign.OpenSlice) None (then-reads slice-reads λ s. done-reads n _ (Some s)) (begins_bind (slice_begins (λ at e. refl))) (λ a e. e)
+
+same_word : (word : List ℕ) (a : Token) (x : ℕ) → the_name word a ≡ Ok x → is_given (the_name word a) ≡ true
+same_word word a x e = rw e refl
+
+other_word_of : (at : ℕ) (l : Lexeme) (x : ℕ) → text_of (codes "miss") at l ≡ Ok x → is_given (text_of (codes "hit") at l) ≡ false
+other_word_of at (lexeme.Name t) x e = ap (λ (q : List ℕ). is_given (text_of (codes "hit") at (lexeme.Name q))) (same_bytes t (codes "miss") (test_true (bytes_eq t (codes "miss")) at x e))
+other_word_of at (lexeme.Sign s) x e = refl
+other_word_of at (lexeme.Number v w) x e = refl
+
+pub outcome-reads : {n : ℕ} → Reads n outcome_ outcome_ free outcome_at
+unfolding outcome_ outcome_at
+outcome-reads {n = n} = choose-reads (λ a. is_given (the_name (codes "hit") a)) (then-reads (the_name-reads (codes "hit") refl) λ at. done-reads n free outcome.Hit) (then-reads (the_name-reads (codes "miss") refl) λ at. done-reads n free outcome.Miss)
+    (begins_bind (begins_taken (same_word (codes "hit")))) (begins_bind (begins_taken (λ a x e. other_word_of a.at a.lexeme x e)))
