@@ -185,7 +185,7 @@ some_by t (a ∷ u) e = omega arith
 
 -- a repetition of what begins so, up to a token that doesn't
 pub list-reads : {A : Type 0} {n : ℕ} {D U : Lang A} {p : Reader A} (t : Token → Bool) → Reads n D U free p → Begins true t D → Begins true t U → Reads n (many D) (many U) (λ xs. t) (many_at n t p)
-list-reads {n = n} {D = D} {U = U} {p = p} t h k up = many-reads n t D U free p h k.at (λ x u d. some_by t u (up.at x u [] d)) (λ x y u m d. is_free (u ++ m)) (λ x m end. is_free m) n (omega arith)
+list-reads {n = n} {D = D} {U = U} {p = p} t h k up = many-reads n t D U free p h k.at (λ x u d. some_by t u (up.at x u [] d)) (λ x y u m d. is_free (u ++ m)) t (λ x m end. is_free m) (λ m end. end) n (omega arith)
 
 hand_end : (t : Token → Bool) (m : List Token) → hand t m ≡ false → IsEnd t m
 hand_end t [] e = tt
@@ -194,3 +194,10 @@ hand_end t (a ∷ m) e = e
 -- a front, and what begins with a token that doesn't go on with it
 pub behind-reads : {A B : Type 0} {n : ℕ} {D U : Lang A} {E : A → Token → Bool} {p : Reader A} {D2 U2 : A → Lang B} {E2 : B → Token → Bool} {f : A → Reader B} → Reads n D U E p → ((x : A) → Begins false (E x) (D2 x)) → ((x : A) → Reads n (D2 x) (U2 x) E2 (f x)) → Reads n (bind D D2) (bind U U2) E2 (bind_at p f)
 behind-reads {n = n} {D = D} {U = U} {E = E} {p = p} {D2 = D2} {U2 = U2} {E2 = E2} {f = f} h b k = bind-reads n D U E p D2 U2 E2 f h k (λ x y v m d end. hand_end (E x) (v ++ m) ((b x).at y v m d))
+
+-- a repetition of what begins so, where what may go on behind one doesn't begin so
+pub list_to-reads : {A : Type 0} {n : ℕ} {D U : Lang A} {p : Reader A} (t E : Token → Bool) → Reads n D U (λ x. E) p → Begins true t D → Begins true t U → Begins false E D → (E2 : Token → Bool) → ((a : Token) → E2 a ≡ false → E a ≡ false) → ((a : Token) → E2 a ≡ false → t a ≡ false) → Reads n (many D) (many U) (λ xs. E2) (many_at n t p)
+list_to-reads {n = n} {D = D} {U = U} {p = p} t E h k up away E2 ends stop = many-reads n t D U (λ x. E) p h k.at (λ x u d. some_by t u (up.at x u [] d)) (λ x y u m d. hand_end E (u ++ m) (away.at y u m d)) E2 (λ x m end. end_map E E2 ends m end) (λ m end. end_map t E2 stop m end) n (omega arith) where
+  end_map : (E E2 : Token → Bool) → ((a : Token) → E2 a ≡ false → E a ≡ false) → (m : List Token) → IsEnd E2 m → IsEnd E m
+  end_map E E2 h [] e = tt
+  end_map E E2 h (a ∷ m) e = h a e

@@ -309,7 +309,7 @@ given_is : {A : Type 0} (r : Result A (Unit {0})) → is_given r ≡ true → (x
 given_is (Ok x) e = (x, refl)
 given_is (Err e) g = absurd cc
 
-test_true : {A : Type 0} (b : Bool) (x y : A) → test b x ≡ Ok y → b ≡ true
+pub test_true : {A : Type 0} (b : Bool) (x y : A) → test b x ≡ Ok y → b ≡ true
 test_true true x y e = refl
 test_true false x y e = absurd cc
 

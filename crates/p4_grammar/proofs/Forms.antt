@@ -322,8 +322,8 @@ module _ {A : Type 0} (n : ℕ) (test : Token → Bool) (D U : Lang A) (E : A �
     (begins : (x : A) (u m : List Token) → D x u → hand test (u ++ m) ≡ true)
     (some_U : (x : A) (u : List Token) → U x u → 1 ≤ length u)
     (goes_on : (x y : A) (u m : List Token) → D y u → IsEnd (E x) (u ++ m))
-    (ends : (x : A) (m : List Token) → IsEnd test m → IsEnd (E x) m) where
-  many_apart : (x : A) (xs : List A) (u m : List Token) → many D xs u → IsEnd test m → IsEnd (E x) (u ++ m)
+    (E2 : Token → Bool) (ends : (x : A) (m : List Token) → IsEnd E2 m → IsEnd (E x) m) (stop : (m : List Token) → IsEnd E2 m → IsEnd test m) where
+  many_apart : (x : A) (xs : List A) (u m : List Token) → many D xs u → IsEnd E2 m → IsEnd (E x) (u ++ m)
   many_apart x [] u m d end = subst (λ (t : List Token). IsEnd (E x) (t ++ m)) (sym d) (ends x m end)
   many_apart x (y ∷ ys) w m (u, v, e, d, ds) end = subst (λ (t : List Token). IsEnd (E x) t) (rw (e, append_assoc) refl) (goes_on x y u (v ++ m) d)
 
@@ -335,20 +335,20 @@ module _ {A : Type 0} (n : ℕ) (test : Token → Bool) (D U : Lang A) (E : A �
   many_up xs u (inr d) = subst (λ (ys : List A). many U ys u) (sym d.0) d.1
   many_up xs w (inl (x, u, v, e, d, (ys, v1, v2, e2, ds, (is, none_is)))) = subst (λ (zs : List A). many U zs w) (sym is) (u, v, e, d, subst (λ (t : List Token). many U ys t) (sym (rw (e2, none_is, append-nil) refl)) ds)
 
-  pub many-reads : (c : ℕ) → c ≤ n → Reads c (many D) (many U) (λ xs. test) (many_at c test p)
-  many-reads zero le = stuck-reads (many D) (many U) (λ xs. test) [] [] refl
+  pub many-reads : (c : ℕ) → c ≤ n → Reads c (many D) (many U) (λ xs. E2) (many_at c test p)
+  many-reads zero le = stuck-reads (many D) (many U) (λ xs. E2) [] [] refl
   many-reads (suc c) le =
-      fits (suc c) (either (bind D λ x. bind (many D) λ ys. only (x ∷ ys)) (only [])) (either (bind U λ x. bind (many U) λ ys. only (x ∷ ys)) (only [])) (many D) (many U) (λ xs. test) (λ xs. test) (many_at (suc c) test p)
-      (either-reads (suc c) test (bind D λ x. bind (many D) λ ys. only (x ∷ ys)) (bind U λ x. bind (many U) λ ys. only (x ∷ ys)) (λ xs. test) (bind_at p λ x. bind_at (many_at c test p) λ xs. done_at (x ∷ xs)) (only []) (only []) (done_at [])
-      (shifted-reads (suc c) c D U E p (λ x. bind (many D) λ ys. only (x ∷ ys)) (λ x. bind (many U) λ ys. only (x ∷ ys)) (λ xs. test) (λ x. bind_at (many_at c test p) λ xs. done_at (x ∷ xs))
+      fits (suc c) (either (bind D λ x. bind (many D) λ ys. only (x ∷ ys)) (only [])) (either (bind U λ x. bind (many U) λ ys. only (x ∷ ys)) (only [])) (many D) (many U) (λ xs. E2) (λ xs. E2) (many_at (suc c) test p)
+      (either-reads (suc c) test (bind D λ x. bind (many D) λ ys. only (x ∷ ys)) (bind U λ x. bind (many U) λ ys. only (x ∷ ys)) (λ xs. E2) (bind_at p λ x. bind_at (many_at c test p) λ xs. done_at (x ∷ xs)) (only []) (only []) (done_at [])
+      (shifted-reads (suc c) c D U E p (λ x. bind (many D) λ ys. only (x ∷ ys)) (λ x. bind (many U) λ ys. only (x ∷ ys)) (λ xs. E2) (λ x. bind_at (many_at c test p) λ xs. done_at (x ∷ xs))
       (fewer (suc c) n D U E p le h)
-      (λ x. bind-reads c (many D) (many U) (λ xs. test) (many_at c test p) (λ ys. only (x ∷ ys)) (λ ys. only (x ∷ ys)) (λ xs. test) (λ xs. done_at (x ∷ xs)) (many-reads c (omega arith)) (λ ys. done-reads c (λ xs. test) (x ∷ ys))
-      (λ ys zs v m d end. subst (λ (t : List Token). IsEnd test (t ++ m)) (sym d.1) end))
+      (λ x. bind-reads c (many D) (many U) (λ xs. E2) (many_at c test p) (λ ys. only (x ∷ ys)) (λ ys. only (x ∷ ys)) (λ xs. E2) (λ xs. done_at (x ∷ xs)) (many-reads c (omega arith)) (λ ys. done-reads c (λ xs. E2) (x ∷ ys))
+      (λ ys zs v m d end. subst (λ (t : List Token). IsEnd E2 (t ++ m)) (sym d.1) end))
       (λ x u d. omega (arith, some_U x u d))
       (λ x zs v m d end. many_apart x d.0 v m (subst (λ (t : List Token). many D d.0 t) (sym (rw (d.3, d.5.1, append-nil) refl)) d.4) end))
-      (done-reads (suc c) (λ xs. test) [])
+      (done-reads (suc c) (λ xs. E2) [])
       (λ xs u m d. rw (d.3, append_assoc) (begins d.0 d.1 (d.2 ++ m) d.4))
-      (λ xs u m d end. rw d.1 (hand_end test m end)))
+      (λ xs u m d end. rw d.1 (hand_end test m (stop m end))))
       many_down many_up (λ x m end. end)
 
 module _ {A O : Type 0} (n : ℕ) (op : A → Token → Result O (Unit {0})) (join : O → A → A → A) (D U : Lang A) (E : A → Token → Bool) (p : Reader A) (h : Reads n D U E p) (E2 : A → Token → Bool)

@@ -80,7 +80,7 @@ lower02 : (b r : Bool) (l : Lexeme) → goes_on 2 b r l ≡ false → goes_on 0 
 lower02 b r l e = lower0 b r l (lower1 b r l e)
 
 -- a front and its end, apart from what stands before
-apart_both : {A B : Type 0} (L : Lang A) (K : A → Lang B) (E : Token → Bool) (E1 : A → Token → Bool) (E2 : B → Token → Bool) → ((y : A) (u m : List Token) → L y u → IsEnd (E1 y) m → IsEnd E (u ++ m)) → ((y : A) (z : B) (v m : List Token) → K y z v → IsEnd (E2 z) m → IsEnd (E1 y) (v ++ m)) → (z : B) (w m : List Token) → bind L K z w → IsEnd (E2 z) m → IsEnd E (w ++ m)
+pub apart_both : {A B : Type 0} (L : Lang A) (K : A → Lang B) (E : Token → Bool) (E1 : A → Token → Bool) (E2 : B → Token → Bool) → ((y : A) (u m : List Token) → L y u → IsEnd (E1 y) m → IsEnd E (u ++ m)) → ((y : A) (z : B) (v m : List Token) → K y z v → IsEnd (E2 z) m → IsEnd (E1 y) (v ++ m)) → (z : B) (w m : List Token) → bind L K z w → IsEnd (E2 z) m → IsEnd E (w ++ m)
 apart_both L K E E1 E2 h k z w m (y, u, v, e, d, c) end =
     subst (λ (q : List Token). IsEnd E q) (sym (append_assoc u v m) ∙ ap (λ (q : List Token). q ++ m) (sym e)) (h y u (v ++ m) d (k y z v m c end))
 

@@ -7,3 +7,5 @@ pub mod Operands
 pub mod Levels
 pub mod Called
 pub mod Alone
+pub mod Factored
+pub mod Plain

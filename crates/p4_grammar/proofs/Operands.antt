@@ -31,7 +31,7 @@ use Rattle.p4_grammar.proofs.Expressions.{word_type-reads, word_type_begins, end
 
 -- ---- paths that may ask
 
-same_bytes : (xs ys : List ℕ) → bytes_eq xs ys ≡ true → xs ≡ ys
+pub same_bytes : (xs ys : List ℕ) → bytes_eq xs ys ≡ true → xs ≡ ys
 same_bytes xs ys e = same_text xs ys (sym e)
 
 given_some : (b : Bool) (f g : List P4Name) → cond b (Some f) None ≡ Some g → b ≡ true
