@@ -7,7 +7,7 @@ use Rattle.proto_data.specs.declared.message.Record.{Record}
 use Rattle.rp_base.specs.declared.event.Event.{Event}
 use Rattle.rp_app.specs.Application.{Application}
 use Rattle.proto_model.specs.Table.{Key, same_key, get, put}
-use Rattle.proto_model.specs.Records.{Booked, Records, applied, put_applied, snap_applied, records_of, cells_of}
+use Rattle.proto_model.specs.Records.{Booked, Records, applied, put_applied, snap_applied, records_of}
 use Rattle.proto_model.specs.ReplicaRows.{entry_key, store_step}
 use Rattle.proto_model.specs.Feeds.{Each, Pairwise}
 use Rattle.proto_model.specs.World.{World, Setup, ReplicaNode, opened, below, open_replica_node}

@@ -9,7 +9,7 @@ use Rattle.rp_app.specs.Application.{Application}
 use Rattle.proto_model.specs.SwitchRows.{switch_step}
 use Rattle.proto_model.specs.ReplicaRows.{store_step}
 use Rattle.proto_model.specs.World.{World, SwitchNode, ReplicaNode}
-use Rattle.proto_model.specs.Effects.{switch_moved, replica_moved, packet_fed, frame_passed, master_sent}
+use Rattle.proto_model.specs.Effects.{switch_moved, replica_moved, frame_passed, master_sent}
 use Rattle.proto_model.specs.WorldStep.{Act, Refuses, Feeds, Delivers, Passes, Advances, Alarms, Stops, Boots, Detects, Announces, Pumps, act_of, perform_act, node_takes, switch_takes, replica_takes, runs_now, runs_at_switch, runs_at_replica, stopped, booted, detected, advanced, announcements, next_event, world_step, world_after}
 use Rattle.proto_safety.specs.LeaseLaws.{First}
 use Rattle.proto_safety.specs.Firsts.{with_sent, switch_firsts, node_firsts, act_firsts, event_firsts, firsts_after}

@@ -1,16 +1,13 @@
 -- First sendings over every run in strict mode.
-use Rattle.std.proofs.Common.{◌≡◌, ◌≢◌, ◌⊎◌, inl, inr, ℕ, ◌+◌, ◌≤◌, List, [], ◌∷◌, ◌++◌, drop, length, map, Option, Some, None, refl, sym, ap, ◌∙◌, subst, true, set, slice_get, arith, append-nil, zero, suc, false}
+use Rattle.std.proofs.Common.{◌≡◌, ◌≢◌, ◌⊎◌, inl, inr, ℕ, ◌+◌, List, [], ◌∷◌, ◌++◌, drop, length, map, Option, Some, None, refl, sym, ap, ◌∙◌, subst, true, slice_get, arith, append-nil, zero, suc, false}
 use Rattle.rp_base.specs.declared.node.Node.{Node}
 use Rattle.proto_data.specs.declared.message.Msg.{Msg}
 use Rattle.proto_data.specs.declared.message.Body.{Body}
 use Rattle.proto_data.specs.declared.message.Entry.{Entry}
 use Rattle.proto_data.specs.declared.message.Input.{Input}
-use Rattle.proto_data.specs.declared.message.Carried.{Carried}
-use Rattle.proto_data.specs.declared.terms.Mode.{Mode}
 use Rattle.rp_base.specs.declared.node.Packet.{Packet}
-use Rattle.rp_base.specs.declared.event.Event.{Event}
 use Rattle.rp_app.specs.Application.{Application}
-use Rattle.proto_model.specs.Clocks.{Aged, clocks, switch_clock, replica_clock}
+use Rattle.proto_model.specs.Clocks.{clocks, switch_clock, replica_clock}
 use Rattle.proto_model.specs.Table.{Key}
 use Rattle.proto_model.specs.SwitchState.{open_switch}
 use Rattle.proto_model.specs.SwitchRows.{switch_step}
@@ -20,17 +17,17 @@ use Rattle.proto_model.specs.Records.{Booked}
 use Rattle.proto_model.specs.Feeds.{Each}
 use Rattle.proto_model.specs.Stands.{entries_of}
 use Rattle.proto_model.specs.Effects.{switch_moved, replica_moved}
-use Rattle.proto_model.specs.World.{World, Setup, SwitchNode, ReplicaNode, opened, below, open_switch_node, open_replica_node, running_switches, running_replicas}
-use Rattle.proto_model.specs.WorldStep.{world_after, Advances, advanced, advanced_switches, advanced_replicas, changed_at, announcements, config_msg}
+use Rattle.proto_model.specs.World.{World, SwitchNode, ReplicaNode, running_switches, running_replicas}
+use Rattle.proto_model.specs.WorldStep.{Advances, advanced, advanced_switches, changed_at, announcements, config_msg}
 use Rattle.proto_safety.specs.Books.{In, committed_of}
 use Rattle.proto_safety.specs.LeaseLaws.{Request, First, IsEntryOf}
-use Rattle.proto_safety.specs.Firsts.{request_of, firsts_of, with_sent}
+use Rattle.proto_safety.specs.Firsts.{request_of}
 use Rattle.proto_safety.proofs.FirstSendings.{Made}
-use Rattle.proto_safety.proofs.StrictSends.{NoSnap, NoSnaps}
+use Rattle.proto_safety.proofs.StrictSends.{NoSnap}
 use Rattle.proto_safety.proofs.SlotFirsts.{NodeFirsts}
 use Rattle.proto_safety.proofs.Places.{at_set, at_changed}
 use Rattle.proto_safety.proofs.Lists.{each_append, length_changed_at, each_map, each_weaker, each_at}
-use Rattle.proto_safety.proofs.SwitchNodes.{AllAt, all_changed, all_advanced, all_opened}
+use Rattle.proto_safety.proofs.SwitchNodes.{all_changed, all_advanced}
 use Rattle.proto_safety.proofs.Chains.{each_in}
 use Rattle.proto_safety.proofs.FlowAlarm.{in_append, to_map}
 use Rattle.proto_safety.proofs.FlowBooks.{in_front}
@@ -41,14 +38,13 @@ use Rattle.proto_safety.proofs.StoreBooks.{SentBooks}
 use Rattle.proto_safety.proofs.BooksStep.{step_sent}
 use Rattle.proto_safety.proofs.SwitchSends.{IsRequest, FromSwitch}
 use Rattle.proto_safety.proofs.WorldOrigins.{NodeOrigins, FrameOrigin}
-use Rattle.proto_safety.proofs.WorldPuts.{PutFrame, PutsFit}
 use Rattle.proto_safety.proofs.Ground.{Ground, ground_kept, known_of}
 use Rattle.proto_safety.proofs.WorldPutsKept.{PutsOf, puts_kept, told_grant, fed_grant}
-use Rattle.proto_safety.proofs.Clocks.{AgedIn, aged_kept, aged_now, switch_clocks, replica_clocks, one_switch, one_replica}
+use Rattle.proto_safety.proofs.Clocks.{AgedIn, aged_kept, aged_now, replica_clocks, one_switch, one_replica}
 use Rattle.proto_safety.proofs.WorldFirsts.{WasSent, by_ask, by_put, Before, FirstsHold, Sources, moved_firsts}
 use Rattle.proto_safety.proofs.Acts.{Fits}
-use Rattle.proto_safety.proofs.FirstsInduction.{KeepsFirsts, firsts_kept}
-use Rattle.proto_safety.proofs.Induction.{Keeps, keeps_both, Comes, with_fed}
+use Rattle.proto_safety.proofs.FirstsInduction.{KeepsFirsts}
+use Rattle.proto_safety.proofs.Induction.{Keeps, keeps_both, with_fed}
 
 -- ---- clocks by number
 

@@ -1,34 +1,31 @@
 -- What the second half of the laws stands on, in strict mode: books, replies, origins, requests, and what a lease rests on, all together.
-use Rattle.std.proofs.Common.{◌≡◌, ◌⊎◌, inl, inr, ℕ, ◌+◌, ◌≤◌, ◌<◌, List, [], ◌∷◌, Option, Some, None, refl, sym, ap, ◌∙◌, subst, true, false, Bool, slice_get, arith, append-nil, nat_lt}
+use Rattle.std.proofs.Common.{◌≡◌, ◌⊎◌, inl, inr, ℕ, ◌≤◌, ◌<◌, List, [], Some, refl, sym, ap, ◌∙◌, subst, true, false, Bool, slice_get, arith, append-nil, nat_lt}
 use Rattle.proto_data.specs.declared.message.Config.{Config}
 use Rattle.proto_data.specs.declared.message.Entry.{Entry}
 use Rattle.proto_data.specs.declared.message.Input.{Input}
 use Rattle.proto_data.specs.declared.terms.Mode.{Mode}
-use Rattle.rp_base.specs.declared.event.Event.{Event}
 use Rattle.rp_app.specs.Application.{Application}
 use Rattle.proto_model.specs.Table.{Key}
-use Rattle.proto_model.specs.Slot.{Slot, Lease, Idle, Asking, Held, Lapsed, epoch_of}
-use Rattle.proto_model.specs.SwitchState.{slot_at, Copy}
+use Rattle.proto_model.specs.Slot.{Lease, Idle, Asking, Held, Lapsed, epoch_of}
+use Rattle.proto_model.specs.SwitchState.{Copy}
 use Rattle.proto_model.specs.SwitchRows.{switch_step}
 use Rattle.proto_model.specs.Stands.{entries_of}
-use Rattle.proto_model.specs.World.{World, Setup, SwitchNode, ReplicaNode, opened}
-use Rattle.proto_model.specs.WorldStep.{world_after}
-use Rattle.proto_safety.specs.Books.{In, IsPrefix, Books, lives, book_of, entries_at, committed_of}
-use Rattle.proto_safety.specs.Flows.{FitsFrom}
+use Rattle.proto_model.specs.World.{World, SwitchNode, ReplicaNode}
+use Rattle.proto_safety.specs.Books.{In, IsPrefix, Books, lives, entries_at, committed_of}
 use Rattle.proto_safety.specs.CellLaws.{Rests, SlotRests, copies_of}
 use Rattle.std.proofs.lemmas.Bool.{ltb-true, ltb-false}
 use Rattle.proto_safety.proofs.BookEpochLaws.{committed_fits}
 use Rattle.proto_safety.proofs.LastBook.{Found, find_last, last_book, none_book, IsLast}
 use Rattle.proto_safety.proofs.Lists.{each_at}
 use Rattle.proto_safety.proofs.Tables.{same_some}
-use Rattle.proto_safety.proofs.SwitchNodes.{AllAt, all_set, all_changed, all_advanced, all_opened}
+use Rattle.proto_safety.proofs.SwitchNodes.{AllAt, all_set, all_changed, all_advanced}
 use Rattle.proto_safety.proofs.FlowInduction.{step_same}
-use Rattle.proto_safety.proofs.WorldFits.{NodeFits, BooksFit}
+use Rattle.proto_safety.proofs.WorldFits.{NodeFits}
 use Rattle.proto_safety.proofs.WorldFlows.{Replied, AllRest, replied_kept, rests_kept}
 use Rattle.proto_safety.proofs.WorldOrigins.{NodeOrigins, Stored, Origins, stored_kept, origins_kept}
 use Rattle.proto_safety.proofs.WorldNonces.{Spoken, AllNonces, spoken_kept, nonces_kept}
 use Rattle.proto_safety.proofs.WorldPuts.{GrantOf, Known}
-use Rattle.proto_safety.proofs.Induction.{Keeps, KeepsGiven, keeps_all, keeps_both, run_kept}
+use Rattle.proto_safety.proofs.Induction.{Keeps, keeps_all, keeps_both}
 
 -- every switch and the world are in strict mode
 pub record AllStrict (w : World) : Type 0 where

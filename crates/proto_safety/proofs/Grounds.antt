@@ -1,5 +1,5 @@
 -- In strict mode each lease ends one term after the first sending of a request of its epoch whose entry is committed.
-use Rattle.std.proofs.Common.{◌≡◌, ◌≢◌, ◌⊎◌, inl, inr, ℕ, ◌+◌, ◌≤◌, List, [], ◌∷◌, ◌++◌, drop, length, map, Option, Some, None, refl, sym, ap, ◌∙◌, subst, true, false, Bool, set, slice_get, arith, zero, suc, eqb-true}
+use Rattle.std.proofs.Common.{◌≡◌, ◌⊎◌, inl, inr, ℕ, ◌+◌, ◌≤◌, List, [], ◌∷◌, Option, Some, None, refl, sym, ap, ◌∙◌, subst, true, false, Bool, arith}
 use Rattle.std.specs.Prelude.{fold, filter, nat_lt, nat_le, max, if◌then◌else◌}
 use Rattle.std.proofs.lemmas.Bool.{and_parts, leb-true, leb-false}
 use Rattle.rp_base.specs.declared.node.Node.{Node}
@@ -8,23 +8,22 @@ use Rattle.proto_data.specs.declared.message.Entry.{Entry}
 use Rattle.proto_data.specs.declared.message.Input.{Input}
 use Rattle.proto_data.specs.declared.message.Carried.{Carried}
 use Rattle.rp_app.specs.Application.{Application}
-use Rattle.proto_model.specs.Table.{Key, same_key}
+use Rattle.proto_model.specs.Table.{Key}
 use Rattle.proto_model.specs.Slot.{Slot, Lease, Idle, Asking, Held, Lapsed, epoch_of, lapsed_lease}
-use Rattle.proto_model.specs.SwitchState.{Switch, Copy, slot_at, is_of, is_covered, greatest_first}
+use Rattle.proto_model.specs.SwitchState.{Copy, slot_at, is_of, is_covered, greatest_first}
 use Rattle.proto_model.specs.SwitchActs.{acked_lease}
-use Rattle.proto_model.specs.SwitchRows.{switch_step}
 use Rattle.proto_model.specs.Committed.{number_in}
-use Rattle.proto_model.specs.World.{World, SwitchNode, ReplicaNode}
+use Rattle.proto_model.specs.World.{World, SwitchNode}
 use Rattle.proto_safety.specs.Books.{In, IsPrefix, committed_of}
 use Rattle.proto_safety.specs.Flows.{FitsFrom, AckedIn}
-use Rattle.proto_safety.specs.LeaseLaws.{Request, AskOf, NumberOf, First, IsEntryOf, HasEpoch, Grounded, LeaseGrounded}
+use Rattle.proto_safety.specs.LeaseLaws.{AskOf, NumberOf, First, IsEntryOf, Grounded, LeaseGrounded}
 use Rattle.proto_safety.proofs.FirstSendings.{sending}
 use Rattle.proto_safety.proofs.SlotFirsts.{NodeFirsts, lapsed_epoch}
-use Rattle.proto_safety.proofs.SwitchSince.{Since, NotLeased, idle, kept, took, kept_by, step_since}
+use Rattle.proto_safety.proofs.SwitchSince.{Since, NotLeased, idle, kept, took, kept_by}
 use Rattle.proto_safety.proofs.SwitchTable.{msg}
 use Rattle.proto_safety.proofs.FlowBooks.{in_prefix}
 use Rattle.proto_safety.proofs.FlowAlarm.{in_filter}
-use Rattle.proto_safety.proofs.EpochNumbers.{numbers_below, number_epoch, number_value, IsNumber}
+use Rattle.proto_safety.proofs.EpochNumbers.{numbers_below, number_epoch, number_value}
 
 -- ---- the list goes on, and so does the committed book
 

@@ -1,13 +1,11 @@
 -- Where leases end, over every run in strict mode.
-use Rattle.std.proofs.Common.{◌≡◌, ◌≢◌, ◌⊎◌, inl, inr, ℕ, ◌+◌, List, [], ◌∷◌, ◌++◌, drop, length, Option, Some, None, refl, sym, ap, ◌∙◌, subst, true, false, set, slice_get}
+use Rattle.std.proofs.Common.{◌≡◌, ◌≢◌, ◌⊎◌, inl, inr, ℕ, ◌+◌, List, drop, length, Option, Some, refl, sym, ap, ◌∙◌, subst, true, false, set, slice_get}
 use Rattle.rp_base.specs.declared.node.Node.{Node}
 use Rattle.proto_data.specs.declared.message.Body.{Body}
 use Rattle.proto_data.specs.declared.message.Entry.{Entry}
 use Rattle.proto_data.specs.declared.message.Input.{Input}
 use Rattle.proto_data.specs.declared.message.Carried.{Carried}
-use Rattle.proto_data.specs.declared.terms.Mode.{Mode}
 use Rattle.rp_base.specs.declared.node.Packet.{Packet}
-use Rattle.rp_base.specs.declared.event.Event.{Event}
 use Rattle.rp_app.specs.Application.{Application}
 use Rattle.proto_model.specs.Table.{Key}
 use Rattle.proto_model.specs.Slot.{Slot}
@@ -15,14 +13,14 @@ use Rattle.proto_model.specs.SwitchState.{slot_at, open_switch}
 use Rattle.proto_model.specs.SwitchRows.{switch_step}
 use Rattle.proto_model.specs.ReplicaRows.{store_step}
 use Rattle.proto_model.specs.Effects.{switch_moved, replica_moved, frame_passed, master_sent}
-use Rattle.proto_model.specs.World.{World, Setup, SwitchNode, opened, open_switch_node, below}
-use Rattle.proto_model.specs.WorldStep.{world_after, advanced, advanced_switches, changed_at, next_event, detected, announcements}
+use Rattle.proto_model.specs.World.{World, SwitchNode}
+use Rattle.proto_model.specs.WorldStep.{advanced, next_event, detected, announcements}
 use Rattle.proto_safety.specs.Books.{In, IsPrefix, committed_of}
 use Rattle.proto_safety.specs.Flows.{AckedIn}
 use Rattle.proto_safety.specs.LeaseLaws.{First, AskOf, LeaseGrounded}
-use Rattle.proto_safety.specs.Firsts.{with_sent, firsts_of}
+use Rattle.proto_safety.specs.Firsts.{with_sent}
 use Rattle.proto_safety.proofs.Places.{at_set}
-use Rattle.proto_safety.proofs.SwitchNodes.{AllAt, all_changed, all_advanced, all_opened}
+use Rattle.proto_safety.proofs.SwitchNodes.{AllAt, all_changed, all_advanced}
 use Rattle.proto_safety.proofs.FlowInduction.{step_same}
 use Rattle.proto_safety.proofs.FlowReplies.{acked_told}
 use Rattle.proto_safety.proofs.SwitchTable.{msg}
@@ -34,13 +32,13 @@ use Rattle.proto_safety.proofs.PutsKept.{SlotWas}
 use Rattle.proto_safety.proofs.WorldPuts.{set_at}
 use Rattle.proto_safety.proofs.SwitchSince.{step_since}
 use Rattle.proto_safety.proofs.CopyNumbers.{AllPositive, positive_kept, positive_at}
-use Rattle.proto_safety.proofs.Ground.{Ground, known_of}
+use Rattle.proto_safety.proofs.Ground.{known_of}
 use Rattle.proto_safety.proofs.WorldPutsKept.{SlotsWere, as_they_were, no_slots, same_prefix, told_grant, fed_grant}
 use Rattle.proto_safety.proofs.WorldFirsts.{FirstsHold}
 use Rattle.proto_safety.proofs.FirstsKept.{Settled, settled_kept, firsts_kept_by}
 use Rattle.proto_safety.proofs.Grounds.{lease_later, lease_now}
 use Rattle.proto_safety.proofs.FirstsInduction.{KeepsFirsts}
-use Rattle.proto_safety.proofs.Induction.{Keeps, keeps_all, Comes, with_fed}
+use Rattle.proto_safety.proofs.Induction.{Keeps, keeps_all, with_fed}
 
 -- each lease ends one term after the first sending of a request whose entry is committed
 abbrev pub GroundsHold : List First → World → Type 0

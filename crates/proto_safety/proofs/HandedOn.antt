@@ -1,5 +1,5 @@
 -- What a Grant of a next epoch rests on stays so while clocks go on, books stay and nothing more is first sent.
-use Rattle.std.proofs.Common.{◌≡◌, ℕ, ◌+◌, ◌≤◌, List, Some, arith, sym, ap, ◌∙◌, inl, inr, subst, slice_get}
+use Rattle.std.proofs.Common.{◌≡◌, ℕ, ◌+◌, ◌≤◌, List, Some, arith, sym, ap, ◌∙◌, inl, inr, slice_get}
 use Rattle.proto_data.specs.declared.message.Entry.{Entry}
 use Rattle.proto_model.specs.Stands.{entries_of}
 use Rattle.proto_model.specs.Table.{Key}

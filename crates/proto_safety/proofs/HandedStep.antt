@@ -1,5 +1,5 @@
 -- What each Grant of a next epoch rests on, where a replica applies one.
-use Rattle.std.proofs.Common.{◌≡◌, ◌≢◌, ◌⊎◌, inl, inr, ℕ, ◌+◌, ◌-◌, ◌*◌, ◌≤◌, ◌<◌, List, [], ◌∷◌, ◌++◌, map, length, Option, Some, None, refl, sym, ap, ◌∙◌, subst, arith, set, slice_get, append_assoc, append-nil, true}
+use Rattle.std.proofs.Common.{◌≡◌, ◌≢◌, ◌⊎◌, inl, inr, ℕ, ◌+◌, ◌-◌, ◌*◌, ◌≤◌, List, [], ◌∷◌, ◌++◌, map, Option, Some, None, refl, sym, ap, ◌∙◌, subst, arith, slice_get, append_assoc, append-nil, true}
 use Rattle.std.specs.Prelude.{option_map}
 use Rattle.std.proofs.lemmas.List.{map-append}
 use Rattle.rp_base.specs.declared.node.Node.{Node}
@@ -16,18 +16,18 @@ use Rattle.proto_model.specs.Records.{Booked, records_of}
 use Rattle.proto_model.specs.ReplicaState.{record_at}
 use Rattle.proto_model.specs.ReplicaRows.{store_step, store_row, entry_key, StoreRow}
 use Rattle.proto_model.specs.Effects.{replica_moved}
-use Rattle.proto_model.specs.Stands.{entries_of, Stands}
-use Rattle.proto_model.specs.World.{World, SwitchNode, ReplicaNode}
-use Rattle.proto_model.specs.Clocks.{clocks, Aged, switch_clock, replica_clock}
+use Rattle.proto_model.specs.Stands.{entries_of}
+use Rattle.proto_model.specs.World.{World, ReplicaNode}
+use Rattle.proto_model.specs.Clocks.{replica_clock}
 use Rattle.proto_safety.specs.Books.{In, IsPrefix, Books, NodeBooks, Forwarded, FrameBooks, ToReplica, book_of, entries_at}
-use Rattle.proto_safety.specs.Flows.{Flow, FitsFrom, flow_in, flow_of}
-use Rattle.proto_safety.specs.LeaseLaws.{First, IsEntryOf, HasEpoch, IsLater, ClockPast}
+use Rattle.proto_safety.specs.Flows.{FitsFrom, flow_in, flow_of}
+use Rattle.proto_safety.specs.LeaseLaws.{First, IsEntryOf, IsLater}
 use Rattle.proto_safety.proofs.BookEpochs.{SameOwner, one_grant, grant_above, key_of_epoch}
 use Rattle.proto_safety.proofs.BookMoments.{AllMoments, NodeMoments, last_in_book}
 use Rattle.proto_safety.proofs.BooksStep.{RowOf, of_message, of_alarm, of_packet, row_of, comes_prefix}
 use Rattle.proto_safety.proofs.FirstsKept.{clock_of_switch, clock_of_replica}
 use Rattle.proto_safety.proofs.FlowAlarm.{in_map}
-use Rattle.proto_safety.proofs.FlowBooks.{stands_flow, granted_in, in_front}
+use Rattle.proto_safety.proofs.FlowBooks.{stands_flow, granted_in}
 use Rattle.proto_safety.proofs.Ground.{Ground, known_of}
 use Rattle.proto_safety.proofs.Handed.{GrantBy, as_first, as_own, as_other, as_sent, granted_by, Passed, RunOut, BookHanded, HandedHold, term_passed}
 use Rattle.proto_safety.proofs.Lists.{each_at}

@@ -1,10 +1,8 @@
 -- No lease is live, and no young Ask is answered, where a running book has a later epoch: from what each Grant of a next epoch rests on.
-use Rattle.std.proofs.Common.{◌≡◌, ◌⊎◌, inl, inr, ℕ, ◌+◌, ◌≤◌, ◌<◌, List, [], ◌∷◌, ◌++◌, Option, Some, None, arith, refl, sym, ap, ◌∙◌, subst, true, false, Bool, slice_get, le-ltb}
-use Rattle.std.specs.Prelude.{nat_lt}
+use Rattle.std.proofs.Common.{◌≡◌, inl, inr, ℕ, ◌+◌, ◌≤◌, ◌<◌, List, Some, None, arith, refl, sym, ap, ◌∙◌, subst, false, slice_get, le-ltb}
 use Rattle.proto_data.specs.declared.message.Entry.{Entry}
 use Rattle.proto_model.specs.Table.{Key}
 use Rattle.proto_model.specs.Slot.{Slot, Lease, Asking, Held, is_young}
-use Rattle.proto_model.specs.SwitchState.{slot_at}
 use Rattle.proto_model.specs.Stands.{entries_of}
 use Rattle.proto_model.specs.World.{World, SwitchNode, ReplicaNode}
 use Rattle.proto_safety.specs.Books.{In, Runs, committed_of}
@@ -16,7 +14,7 @@ use Rattle.proto_safety.proofs.CellsGround.{OverLate}
 use Rattle.proto_safety.proofs.FlowBooks.{in_prefix}
 use Rattle.proto_safety.proofs.Ground.{Ground, known_of}
 use Rattle.proto_safety.proofs.GroundsKept.{GroundsHold}
-use Rattle.proto_safety.proofs.Handed.{HandedHold, Passed, RunOut}
+use Rattle.proto_safety.proofs.Handed.{HandedHold, Passed}
 use Rattle.proto_safety.proofs.Lists.{each_at}
 use Rattle.proto_safety.proofs.NextGrant.{NextGrant, next_grant}
 use Rattle.proto_safety.proofs.WorldNonces.{greatest_ask}

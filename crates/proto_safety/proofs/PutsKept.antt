@@ -1,5 +1,5 @@
 -- What is known of Puts and items is kept by every other change of the world.
-use Rattle.std.proofs.Common.{◌≡◌, ◌⊎◌, inl, inr, ℕ, ◌+◌, ◌≤◌, List, [], ◌∷◌, ◌++◌, length, Option, Some, None, refl, sym, ap, ◌∙◌, subst, true, slice_get, arith, append-nil, append_assoc, length-append}
+use Rattle.std.proofs.Common.{◌≡◌, ◌⊎◌, inl, inr, ℕ, ◌+◌, List, [], ◌∷◌, ◌++◌, length, Option, Some, None, sym, ap, ◌∙◌, subst, true, slice_get, arith, append_assoc, length-append}
 use Rattle.proto_data.specs.declared.message.Msg.{Msg}
 use Rattle.proto_data.specs.declared.message.Body.{Body}
 use Rattle.proto_data.specs.declared.message.Entry.{Entry}
@@ -15,7 +15,7 @@ use Rattle.proto_safety.specs.Flows.{FitsFrom}
 use Rattle.proto_safety.proofs.Chains.{each_in}
 use Rattle.proto_safety.proofs.FlowBooks.{in_prefix}
 use Rattle.proto_safety.proofs.BookEpochs.{one_place}
-use Rattle.proto_safety.proofs.WorldPuts.{PutFrame, GrantOf, Reaches, Awaited, NumberFits, Owned, PutsFit, put_parts}
+use Rattle.proto_safety.proofs.WorldPuts.{PutFrame, GrantOf, Awaited, NumberFits, Owned, PutsFit, put_parts}
 
 -- a member stands somewhere
 pub record Somewhere {A : Type 0} (xs : List A) (x : A) : Type 0 where

@@ -1,40 +1,23 @@
 -- What the first sendings say of one slot and its copies, and what a change of them keeps.
-use Rattle.std.proofs.Common.{◌≡◌, ◌⊎◌, inl, inr, ℕ, ◌+◌, ◌≤◌, List, [], ◌∷◌, ◌++◌, Option, Some, None, refl, sym, ap, subst, ◌∙◌, true, false, Bool, map, arith, eqb-true}
-use Rattle.std.specs.Prelude.{◌==◌, ◌/◌, filter, not, if◌then◌else◌, option_map, option_and_then, unwrap_or, take, nat_lt, nat_le}
+use Rattle.std.proofs.Common.{◌≡◌, ◌⊎◌, inl, inr, ℕ, ◌+◌, ◌≤◌, List, [], ◌∷◌, ◌++◌, Option, Some, None, refl, sym, ap, subst, ◌∙◌, true, false, Bool, arith, eqb-true}
+use Rattle.std.specs.Prelude.{filter, if◌then◌else◌, nat_lt, nat_le}
 use Rattle.std.proofs.lemmas.Bool.{false≢true, both_ways}
 use Rattle.rp_base.specs.declared.node.Node.{Node}
-use Rattle.proto_data.specs.declared.message.Msg.{Msg}
 use Rattle.proto_data.specs.declared.message.Body.{Body}
 use Rattle.proto_data.specs.declared.message.Input.{Input}
-use Rattle.proto_data.specs.declared.terms.Mode.{Mode}
 use Rattle.proto_data.specs.declared.message.Carried.{Carried}
-use Rattle.rp_base.specs.declared.node.Packet.{Packet}
-use Rattle.rp_app.specs.Application.{Application}
-use Rattle.proto_model.specs.Ring.{remember}
-use Rattle.proto_model.specs.Table.{Key, Table, same_key, get, put, map_values}
-use Rattle.proto_model.specs.Slot.{Slot, Lease, emptied, is_young, Idle, Asking, Held, Lapsed, epoch_of, lapsed_slot, lapsed_lease, extended}
-use Rattle.proto_model.specs.SwitchState.{Switch, Copy, slot_at, is_of, is_covered, lapsed}
-use Rattle.proto_model.specs.SwitchAlarm.{alarm, Walk, empty_put, resent, resent_put, repeated_ask, repeated_asks, due_copies, other_copies, walk_order, epoch_at}
-use Rattle.proto_model.specs.SwitchRow.{SwitchRow, Keyless, NoRoom, NewAsk, AskAgain, Drops, Direct, Mirrored, Granted, Late, Acked, RoundDone, Denied, Busied, Adopts, Resends, Stale, switch_row, has_epoch}
-use Rattle.proto_model.specs.SwitchActs.{perform, acked_lease, late_did}
-use Rattle.proto_model.specs.SwitchRows.{switch_step}
-use Rattle.proto_model.specs.Feeds.{Each}
+use Rattle.proto_model.specs.Table.{Key, Table, same_key, get, put}
+use Rattle.proto_model.specs.Slot.{Slot, Lease, Idle, Asking, Held, Lapsed, epoch_of, lapsed_lease}
+use Rattle.proto_model.specs.SwitchState.{Copy, is_of}
+use Rattle.proto_model.specs.SwitchRow.{has_epoch}
+use Rattle.proto_model.specs.SwitchActs.{acked_lease}
 use Rattle.proto_safety.specs.Books.{In}
 use Rattle.proto_safety.specs.LeaseLaws.{Request, AskOf, NumberOf, First}
-use Rattle.proto_safety.specs.Firsts.{with_request, with_sent}
-use Rattle.proto_safety.proofs.FirstSendings.{Made, MadeBefore, sending, stays, comes, request_keeps, sent_stays, sent_append, sent_keeps}
-use Rattle.proto_safety.proofs.FlowAlarm.{in_append, in_filter, in_map, in_due, to_filter, resent_same}
+use Rattle.proto_safety.proofs.FirstSendings.{Made, sending}
+use Rattle.proto_safety.proofs.FlowAlarm.{in_append, in_filter}
 use Rattle.proto_safety.proofs.FlowBooks.{in_front, in_last}
-use Rattle.proto_safety.proofs.Lists.{each_append, each_take, each_if}
-use Rattle.proto_safety.proofs.TableKeys.{KeysDiffer, member_found, differ_map}
-use Rattle.proto_safety.proofs.Tables.{get-put_same, get-put_other, get-map_values, same_key-true, same_key-refl, same_some}
-use Rattle.proto_safety.proofs.SwitchTable.{msg, Acts, Ready, Timely, fed, at_grant, at_grant_again, first_ask, ask_idle, ask_anew, ask_lapsed, ask_again, no_copy_room, direct, mirrored, snapped, too_old, granted_only, late, acked, round_done, denied, busied, row_acts}
-use Rattle.proto_safety.proofs.AlarmInduction.{WalkKeeps, walk_kept}
-use Rattle.proto_safety.proofs.Copies.{Fit, CopiesFit, HasSlot, is_leased}
-use Rattle.proto_safety.proofs.FlowCopies.{not_strict}
-use Rattle.proto_safety.proofs.SwitchSays.{Tidy, tidy_lapsed, each_made}
-use Rattle.proto_safety.proofs.SlotCells.{mapped}
-use Rattle.proto_safety.proofs.Chains.{each_in}
+use Rattle.proto_safety.proofs.Tables.{get-put_same, get-put_other, same_key-true, same_key-refl, same_some}
+use Rattle.proto_safety.proofs.SwitchTable.{msg}
 
 -- the first sendings of the Asking slots and the copies of switch n
 pub record NodeFirsts (fs : List First) (n inc : ℕ) (slots : Table Slot) (copies : List Copy) : Type 0 where

@@ -1,6 +1,6 @@
 -- Where a leased slot's lease comes from in one step: it is the lease before, a Grant gave it, or an Ack kept it.
-use Rattle.std.proofs.Common.{◌≡◌, ◌⊎◌, inl, inr, ℕ, ◌+◌, ◌≤◌, List, [], ◌∷◌, ◌++◌, Option, Some, None, refl, sym, ap, ◌∙◌, subst, true, false, Bool, map, arith, eqb-true}
-use Rattle.std.specs.Prelude.{fold, filter, not, if◌then◌else◌, nat_le}
+use Rattle.std.proofs.Common.{◌≡◌, ◌⊎◌, inl, inr, ℕ, ◌+◌, List, Option, Some, None, refl, sym, ap, ◌∙◌, subst, true, false, Bool, map, eqb-true}
+use Rattle.std.specs.Prelude.{fold, filter, if◌then◌else◌, nat_le}
 use Rattle.proto_data.specs.declared.message.Body.{Body}
 use Rattle.rp_base.specs.declared.node.Node.{Node}
 use Rattle.proto_data.specs.declared.message.Input.{Input}
@@ -11,13 +11,12 @@ use Rattle.rp_app.specs.Application.{Application}
 use Rattle.proto_model.specs.Table.{Key, Table, same_key, get, put, map_values}
 use Rattle.proto_model.specs.Slot.{Slot, Lease, Idle, Asking, Held, Lapsed, epoch_of, lapsed_lease, lapsed_slot}
 use Rattle.proto_model.specs.SwitchState.{Switch, Copy, slot_at, is_covered, greatest_first, lapsed}
-use Rattle.proto_model.specs.SwitchAlarm.{alarm, Walk, walk_order}
-use Rattle.proto_model.specs.SwitchRow.{SwitchRow, NewAsk, AskAgain, Drops, Direct, Mirrored, Granted, Late, Acked, RoundDone, Denied, Busied, Resends, switch_row, has_epoch}
+use Rattle.proto_model.specs.SwitchAlarm.{Walk, walk_order}
+use Rattle.proto_model.specs.SwitchRow.{SwitchRow, NewAsk, AskAgain, Drops, Direct, Mirrored, Granted, Late, Acked, RoundDone, Denied, Busied, Resends, switch_row}
 use Rattle.proto_model.specs.SwitchActs.{perform, acked_lease}
 use Rattle.proto_model.specs.SwitchRows.{switch_step}
-use Rattle.proto_safety.specs.Books.{In}
 use Rattle.proto_safety.proofs.Tables.{get-put_same, get-put_other, get-map_values, same_key-true, same_some}
-use Rattle.proto_safety.proofs.SwitchTable.{msg, Acts, Ready, fed, at_grant, at_grant_again, first_ask, ask_idle, ask_anew, ask_lapsed, ask_again, no_copy_room, direct, mirrored, snapped, too_old, granted_only, late, acked, round_done, denied, busied, row_acts}
+use Rattle.proto_safety.proofs.SwitchTable.{msg, Acts, Ready, fed, at_grant, at_grant_again, ask_again, no_copy_room, direct, mirrored, snapped, too_old, granted_only, acked, round_done, busied, row_acts}
 use Rattle.proto_safety.proofs.AlarmInduction.{WalkKeeps, walk_kept}
 use Rattle.proto_safety.proofs.FlowCopies.{not_strict}
 use Rattle.proto_safety.proofs.SlotCells.{mapped}

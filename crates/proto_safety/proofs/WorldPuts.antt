@@ -9,7 +9,7 @@ use Rattle.proto_data.specs.declared.message.Carried.{Carried}
 use Rattle.rp_base.specs.declared.node.Output.{Output}
 use Rattle.rp_app.specs.Application.{Application, Delta}
 use Rattle.proto_model.specs.Table.{Key}
-use Rattle.proto_model.specs.Slot.{Slot, Lease, Asking, epoch_of}
+use Rattle.proto_model.specs.Slot.{Slot, Asking, epoch_of}
 use Rattle.proto_model.specs.SwitchState.{Switch, Item, slot_at}
 use Rattle.proto_model.specs.SwitchRows.{switch_step}
 use Rattle.proto_model.specs.Effects.{added}
@@ -22,16 +22,16 @@ use Rattle.proto_safety.specs.SwitchSent.{SentNow, SaysNow, PutsNow}
 use Rattle.proto_safety.proofs.Places.{at_set}
 use Rattle.proto_safety.proofs.Chains.{each_in}
 use Rattle.proto_safety.proofs.FlowAlarm.{in_append}
-use Rattle.proto_safety.proofs.FlowBooks.{in_prefix, in_front, in_last}
+use Rattle.proto_safety.proofs.FlowBooks.{in_prefix}
 use Rattle.proto_safety.proofs.FlowInduction.{step_same}
 use Rattle.proto_safety.proofs.BookEpochs.{one_grant}
 use Rattle.proto_safety.proofs.FedMarks.{pairwise_push}
-use Rattle.proto_safety.proofs.Copies.{Fit, HasSlot}
+use Rattle.proto_safety.proofs.Copies.{HasSlot}
 use Rattle.proto_safety.proofs.SwitchSays.{Tidy, step_says}
 use Rattle.proto_safety.proofs.SwitchTable.{msg}
 use Rattle.proto_safety.proofs.SwitchWas.{Was, goes_on, asks, takes, ItemStands, step_was, step_item}
 use Rattle.proto_safety.proofs.SlotFirsts.{not_asking}
-use Rattle.proto_safety.proofs.Tables.{same_some, same_key-true}
+use Rattle.proto_safety.proofs.Tables.{same_some}
 
 -- a Put that switch n sent
 pub record PutFrame (frames : List Msg) (n inc : ℕ) (key : Key) (epoch number : ℕ) : Type 0 where

@@ -7,9 +7,7 @@ use Rattle.proto_data.specs.declared.message.Body.{Body}
 use Rattle.proto_data.specs.declared.message.Entry.{Entry}
 use Rattle.proto_data.specs.declared.message.Input.{Input}
 use Rattle.proto_data.specs.declared.message.Carried.{Carried}
-use Rattle.proto_data.specs.declared.terms.Mode.{Mode}
 use Rattle.rp_base.specs.declared.node.Packet.{Packet}
-use Rattle.rp_base.specs.declared.event.Event.{Event}
 use Rattle.rp_app.specs.Application.{Application}
 use Rattle.proto_model.specs.Table.{Key}
 use Rattle.proto_model.specs.Slot.{Slot}
@@ -23,7 +21,7 @@ use Rattle.proto_safety.specs.Flows.{FitsFrom}
 use Rattle.proto_model.specs.Feeds.{Each}
 use Rattle.proto_model.specs.Stands.{entries_of}
 use Rattle.proto_model.specs.World.{World, Setup, Journaled, SwitchNode, ReplicaNode, opened, running_switches, running_replicas}
-use Rattle.proto_model.specs.WorldStep.{world_after, advanced_switches, advanced_replicas, changed_at, announcements, config_msg, next_event}
+use Rattle.proto_model.specs.WorldStep.{advanced_switches, advanced_replicas, changed_at, announcements, config_msg}
 use Rattle.proto_safety.specs.Books.{In, IsPrefix, lives, committed_of}
 use Rattle.proto_safety.proofs.Places.{at_set, at_changed}
 use Rattle.proto_safety.proofs.Lists.{each_append, each_map, each_weaker}
@@ -41,7 +39,7 @@ use Rattle.proto_safety.proofs.WorldFlows.{told_input}
 use Rattle.proto_safety.proofs.WorldPuts.{Known, Owned, PutsFit, moved_puts, set_at}
 use Rattle.proto_safety.proofs.PutsKept.{NoPut, SlotWas, GrantWas, not_again, changed_puts}
 use Rattle.proto_safety.proofs.Ground.{Ground, ground_kept, known_of}
-use Rattle.proto_safety.proofs.Induction.{Keeps, KeepsGiven, Comes, with_fed}
+use Rattle.proto_safety.proofs.Induction.{KeepsGiven, Comes, with_fed}
 
 abbrev pub PutsOf : World → Type 0
 PutsOf w = PutsFit w.frames w.switches w.replicas w.history.items

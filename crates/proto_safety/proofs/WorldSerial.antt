@@ -1,5 +1,5 @@
 -- Over a run, serial lists go on at their ends alone.
-use Rattle.std.proofs.Common.{◌≡◌, ℕ, ◌+◌, List, [], ◌∷◌, ◌++◌, length, drop, Option, Some, None, refl, sym, ap, subst, true, slice_get}
+use Rattle.std.proofs.Common.{◌≡◌, ℕ, ◌+◌, List, [], ◌∷◌, ◌++◌, length, drop, Some, sym, ap, subst, true, slice_get}
 use Rattle.rp_base.specs.declared.node.Node.{Node}
 use Rattle.rp_base.specs.declared.node.Packet.{Packet}
 use Rattle.proto_data.specs.declared.message.Body.{Body}
@@ -14,7 +14,7 @@ use Rattle.proto_model.specs.Feeds.{packet_at}
 use Rattle.proto_model.specs.ReplicaRows.{store_step}
 use Rattle.proto_model.specs.Stands.{entries_of}
 use Rattle.proto_model.specs.SwitchRows.{switch_step}
-use Rattle.proto_model.specs.World.{World, SwitchNode, ReplicaNode, Fed, Journaled}
+use Rattle.proto_model.specs.World.{World, SwitchNode, ReplicaNode, Journaled}
 use Rattle.proto_model.specs.WorldStep.{advanced, advanced_replicas, stopped, Stops}
 use Rattle.proto_safety.specs.Books.{IsPrefix, committed_of}
 use Rattle.proto_safety.proofs.Acts.{Fits}

@@ -14,7 +14,7 @@ pub mod legal;
 pub mod marks;
 pub mod replies;
 pub mod requests;
-pub mod straight;
 pub mod rows;
 pub mod sizes;
+pub mod straight;
 pub mod worked_rows;
