@@ -1,6 +1,7 @@
 -- The run that a schedule asks for, and the text of its report.
-use Rattle.std.specs.Prelude.{ℕ, false, List, Option, Some, None}
+use Rattle.std.specs.Prelude.{ℕ, Bool, true, false, List, [], Option, Some, None, flat_map}
 use Rattle.rp_base.specs.declared.event.Event.{Event}
+use Rattle.rp_base.specs.declared.line.Line.{Line}
 use Rattle.rp_app.specs.Application.{Application, counting}
 use Rattle.proto_data.specs.declared.terms.Mode.{Mode}
 use Rattle.proto_model.specs.Legal.{IsLegal}
@@ -10,7 +11,7 @@ use Rattle.proto_model.specs.EndLines.{report}
 use Rattle.rp_world.specs.declared.world.Setup.{Setup}
 use Rattle.rp_world.specs.Running.{shown}
 use Rattle.sched_lang.specs.declared.schedule.Schedule.{Schedule}
-use Rattle.run_report.specs.Report.{lines_text}
+use Rattle.run_report.specs.Report.{line_text, lines_text}
 
 -- snapshot mode with this bound, or strict mode
 abbrev pub mode_of : Option ℕ → Mode
@@ -30,13 +31,23 @@ setup_of s =
 abbrev pub unlinked : Setup → WorldSetup
 unlinked setup = record { switches = setup.switches; replicas = setup.replicas; terms = setup.terms; linked = false }
 
--- the text of the report of a run, without the frames that it sends
-abbrev pub report_text : Application → Setup → List Event → List ℕ
-report_text app setup events = lines_text (shown (report false app (unlinked setup) events))
+-- the text of the report of a run, with the frames that it sends or without them
+abbrev pub report_text : Bool → Application → Setup → List Event → List ℕ
+report_text frames app setup events = lines_text (shown (report frames app (unlinked setup) events))
 
 -- the report of the run of a schedule, in which packets are counted
-abbrev pub counting_report : Schedule → List ℕ
-counting_report s = report_text counting (setup_of s) s.events
+abbrev pub counting_report : Bool → Schedule → List ℕ
+counting_report frames s = report_text frames counting (setup_of s) s.events
+
+-- the text of a line while a run goes on: a frame that is sent has none unless frames are asked for
+abbrev pub running_text : Bool → Line → List ℕ
+running_text true l = line_text l
+running_text false (Line.Send event frame from to kind bytes) = []
+running_text false l = line_text l
+
+-- the text of the lines of an event
+abbrev pub running_texts : Bool → List Line → List ℕ
+running_texts frames ls = flat_map (running_text frames) ls
 
 -- What the run of a schedule shows of each flow is what one switch that never fails gives along the flow's serial list.
 abbrev pub IsLegalRun : Schedule → Type 0

@@ -1,5 +1,5 @@
 -- What the program answers, and what it writes.
-use Rattle.std.specs.Prelude.{◌≡◌, ℕ, List, [], ◌∷◌, if◌then◌else◌, Option, Some, None, Result, Ok, Err, codes}
+use Rattle.std.specs.Prelude.{◌≡◌, ℕ, Bool, true, false, List, [], ◌∷◌, if◌then◌else◌, Option, Some, None, option_map, Result, Ok, Err, codes}
 use Rattle.std.specs.Str.{bytes_eq}
 use Rattle.rp_base.specs.Outside.{Grows, GrowsByFront}
 use Rattle.sched_lang.specs.declared.schedule.Schedule.{Schedule}
@@ -12,22 +12,28 @@ use Rattle.rp_cli.specs.Reports.{counting_report}
 
 -- what a command line asks for
 pub data Command : Type 0 where
-  -- the report of this schedule, in which packets are counted
-  Counts : (schedule : List ℕ) → Command
+  -- the report of this schedule, in which packets are counted, with the frames that are sent or without them
+  Counts : (frames : Bool) (schedule : List ℕ) → Command
   -- a run of this program; programs don't run yet
   Runs : (program : List ℕ) → Command
 
--- the command that runs this application over this schedule
-abbrev pub command_by : List ℕ → List ℕ → Command
-command_by app schedule = if bytes_eq app (codes "@count") then Counts schedule else Runs app
+-- whether frames are asked for, by the words behind a schedule's name
+abbrev pub frames_by : List (List ℕ) → Option Bool
+frames_by [] = Some false
+frames_by (word ∷ []) = if bytes_eq word (codes "--frames") then Some true else None
+frames_by (word ∷ more ∷ words) = None
 
--- The command of a command line that has a form. There is one form: `run`, an application and the name of a schedule.
+-- the command that runs this application over this schedule
+abbrev pub command_by : List ℕ → List ℕ → Bool → Command
+command_by app schedule frames = if bytes_eq app (codes "@count") then Counts frames schedule else Runs app
+
+-- The command of a command line that has a form: `run`, an application, the name of a schedule, and `--frames` or nothing.
 abbrev pub form_of : List (List ℕ) → Option Command
 form_of [] = None
 form_of (first ∷ []) = None
 form_of (first ∷ app ∷ []) = None
-form_of (first ∷ app ∷ schedule ∷ []) = if bytes_eq first (codes "run") then Some (command_by app schedule) else None
-form_of (first ∷ app ∷ schedule ∷ word ∷ words) = None
+form_of (first ∷ app ∷ schedule ∷ words) =
+    if bytes_eq first (codes "run") then option_map (command_by app schedule) (frames_by words) else None
 
 -- ---- the outcome
 
@@ -48,21 +54,27 @@ program_in (Some text) = status.Usage
 
 abbrev pub asked_at : Option Command → (List ℕ → Option (List ℕ)) → Result Schedule Status
 asked_at None contents = Err status.Usage
-asked_at (Some (Counts schedule)) contents = schedule_in (contents schedule)
+asked_at (Some (Counts frames schedule)) contents = schedule_in (contents schedule)
 asked_at (Some (Runs program)) contents = Err (program_in (contents program))
 
 -- the schedule that these words ask for over inputs with these contents, or the answer in its place
 abbrev pub asked : List (List ℕ) → (List ℕ → Option (List ℕ)) → Result Schedule Status
 asked words contents = asked_at (form_of words) contents
 
+-- whether a command asks for the frames that are sent
+abbrev pub shows_frames : Option Command → Bool
+shows_frames None = false
+shows_frames (Some (Counts frames schedule)) = frames
+shows_frames (Some (Runs program)) = false
+
 -- the report of a run, or the answer in place of a schedule
-abbrev pub reported_or : Result Schedule Status → Result (List ℕ) Status
-reported_or (Ok s) = Ok (counting_report s)
-reported_or (Err answer) = Err answer
+abbrev pub reported_or : Bool → Result Schedule Status → Result (List ℕ) Status
+reported_or frames (Ok s) = Ok (counting_report frames s)
+reported_or frames (Err answer) = Err answer
 
 -- what is written for these words over inputs with these contents, or the answer in its place
 abbrev pub outcome : List (List ℕ) → (List ℕ → Option (List ℕ)) → Result (List ℕ) Status
-outcome words contents = reported_or (asked words contents)
+outcome words contents = reported_or (shows_frames (form_of words)) (asked words contents)
 
 -- ---- what an answer means
 
@@ -144,7 +156,7 @@ IsNoProgram status.NoMemory = Unit {0}
 -- Faulty words have one answer, a program only the answers in its place, and counting never the answer of faulty words.
 abbrev pub IsAnswerTo : Option Command → Status → Type 0
 IsAnswerTo None answer = answer ≡ status.Usage
-IsAnswerTo (Some (Counts schedule)) answer = ¬ (answer ≡ status.Usage)
+IsAnswerTo (Some (Counts frames schedule)) answer = ¬ (answer ≡ status.Usage)
 IsAnswerTo (Some (Runs program)) answer = IsNoProgram answer
 
 -- the exit status

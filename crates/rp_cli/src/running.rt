@@ -2,8 +2,8 @@
 ghost use Rattle.std.specs.Prelude.{◌≡◌, ◌≤◌, All, length, OnOk, OnErr};
 ghost use Rattle.rp_base.specs.Outside.{Grows, GrowsByFront, HasCause};
 ghost use Rattle.rp_world.specs.Running.{IsSetup, IsEvent};
-ghost use Rattle.run_report.specs.Report.{NamesKind, line_text, lines_text};
-ghost use Rattle.rp_cli.specs.Reports.{report_text};
+ghost use Rattle.run_report.specs.Report.{NamesKind};
+ghost use Rattle.rp_cli.specs.Reports.{report_text, running_text, running_texts};
 
 use rp_app::App;
 use rp_base::{Event, Failed, Line, NoMemory, Sink, write_all};
@@ -41,32 +41,41 @@ impl From<Failed> for Stop {
     }
 }
 
-// Writes a line whole.
-fn write_line<K: Sink>(alloc: Global, l: &Line, out: &mut K) -> Result<(), Stop>
+// Writes a line whole, but for a frame that is sent where frames aren't shown.
+fn write_line<K: Sink>(alloc: Global, frames: bool, l: &Line, out: &mut K) -> Result<(), Stop>
     requires { NamesKind l.now }
-    ensures ok { OnOk result (Grows (K.written out.old) (K.written out.new) (line_text l.now)) }
-    ensures err { OnErr result (GrowsByFront (K.written out.old) (K.written out.new) (line_text l.now)) }
+    ensures ok { OnOk result (Grows (K.written out.old) (K.written out.new) (running_text frames l.now)) }
+    ensures err { OnErr result (GrowsByFront (K.written out.old) (K.written out.new) (running_text frames l.now)) }
     ensures cause { HasCause (K.faults out.old) (K.faults out.new) result Stop.Failed }
 {
+    if !frames && matches!(l, Line::Send { .. }) {
+        return Ok(());
+    }
     let text = run_report::line(alloc, l)?;
     write_all(out, text.as_slice())?;
     Ok(())
 }
 
-// Writes lines one after the other, each whole.
-fn write_lines<K: Sink>(alloc: Global, lines: &[Line], out: &mut K) -> Result<(), Stop>
+// Writes lines one after the other, each whole; frames that are sent only where they are shown.
+fn write_lines<K: Sink>(
+    alloc: Global,
+    frames: bool,
+    lines: &[Line],
+    out: &mut K,
+) -> Result<(), Stop>
     requires { All NamesKind lines.now }
-    ensures ok { OnOk result (Grows (K.written out.old) (K.written out.new) (lines_text lines.now)) }
-    ensures err { OnErr result (GrowsByFront (K.written out.old) (K.written out.new) (lines_text lines.now)) }
+    ensures ok { OnOk result (Grows (K.written out.old) (K.written out.new) (running_texts frames lines.now)) }
+    ensures err { OnErr result (GrowsByFront (K.written out.old) (K.written out.new) (running_texts frames lines.now)) }
     ensures cause { HasCause (K.faults out.old) (K.faults out.new) result Stop.Failed }
 {
     for l in lines {
-        write_line(alloc, l, out)?;
+        write_line(alloc, frames, l, out)?;
     }
     Ok(())
 }
 
-/// Runs an application over events, and writes the report: the lines of each event before the next one is taken.
+/// Runs an application over events, and writes the report: the lines of each event before the next one is taken. The frames
+/// that are sent are shown where `frames` says so.
 ///
 /// The setup is one that is built, the application has at most 32 cells, and each of at most 20,000 events is one that is built.
 ///
@@ -76,6 +85,7 @@ pub fn write_report<A: App, K: Sink>(
     alloc: Global,
     app: A,
     setup: &Setup,
+    frames: bool,
     events: &[Event],
     out: &mut K,
 ) -> Result<(), Stop>
@@ -83,15 +93,15 @@ pub fn write_report<A: App, K: Sink>(
     requires cells { (A.meaning app).cell_count ≤ 32 }
     requires events { All IsEvent events.now }
     requires count { length events.now ≤ 20000 }
-    ensures ok { OnOk result (Grows (K.written out.old) (K.written out.new) (report_text (A.meaning app) setup.now events.now)) }
-    ensures err { OnErr result (GrowsByFront (K.written out.old) (K.written out.new) (report_text (A.meaning app) setup.now events.now)) }
+    ensures ok { OnOk result (Grows (K.written out.old) (K.written out.new) (report_text frames (A.meaning app) setup.now events.now)) }
+    ensures err { OnErr result (GrowsByFront (K.written out.old) (K.written out.new) (report_text frames (A.meaning app) setup.now events.now)) }
     ensures cause { HasCause (K.faults out.old) (K.faults out.new) result Stop.Failed }
 {
     let mut world = World::open(alloc, app, setup)?;
     for event in events {
         let lines = world.on(event)?;
-        write_lines(alloc, lines.as_slice(), out)?;
+        write_lines(alloc, frames, lines.as_slice(), out)?;
     }
     let lines = world.closing()?;
-    write_lines(alloc, lines.as_slice(), out)
+    write_lines(alloc, true, lines.as_slice(), out)
 }

@@ -17,6 +17,17 @@ const ONE_PACKET: &[u8] = b"feed 7 6121\nnext\nnext\nnext\nnext\n";
 const ONE_PACKET_REPORT: &[u8] =
     b"release 5 1 7 00000000000000016121\nserial 61 1\ncells 61 1\nend\n";
 
+const ONE_PACKET_FRAMES: &[u8] = b"send 1 0 s0 r0 Ask \
+    525001010010000000010000000101610100000001000700026121\n\
+    send 2 1 r0 s0 Grant \
+    5250010210000000000100000001000000010161000100000000000000000100000001000700026121\n\
+    send 3 2 s0 r0 Put \
+    525001040010000000010000000100000001016100010000000000000000000101000000010007000a\
+    00000000000000016121\n\
+    send 4 3 r0 s0 Ack \
+    525001051000000000010000000100000001016101000000010007000a00000000000000016121\n\
+    release 5 1 7 00000000000000016121\nserial 61 1\ncells 61 1\nend\n";
+
 const CLEAN_PACKETS: &[u8] = b"feed 7 613f\nfeed 7 6121\nfeed 7 613f\nnext\nnext\nnext\nnext\n";
 
 const CLEAN_PACKETS_REPORT: &[u8] = b"release 5 1 7 00000000000000016121\n\
@@ -109,6 +120,16 @@ fn worked_rows(rt: HostRuntime) -> Result<(), Fail> {
 }
 
 #[test]
+fn frames_are_shown(rt: HostRuntime) -> Result<(), Fail> {
+    let alloc = rt.alloc();
+    let schedule = bytes(alloc, &[HEADER, ONE_PACKET])?;
+    let (status, text) = surely(alloc, b"run @count x --frames", schedule)?;
+    assert_eq!(rt; status, Status::Done);
+    assert_eq!(rt; text.as_slice(), ONE_PACKET_FRAMES);
+    Ok(())
+}
+
+#[test]
 fn the_last_of_many_copies_is_dropped(rt: HostRuntime) -> Result<(), Fail> {
     let alloc = rt.alloc();
     let mut schedule = bytes(alloc, &[HEADER, b"feed 7 6121\nnext\nnext\n"])?;
@@ -139,11 +160,18 @@ fn refusals_write_nothing(rt: HostRuntime) -> Result<(), Fail> {
         line: 1,
         why: SchedWhy::Form,
     };
-    let rows: [(&[u8], &[u8], &[u8], Status); 7] = [
+    let rows: [(&[u8], &[u8], &[u8], Status); 9] = [
         (b"", HEADER, ONE_PACKET, Status::Usage),
         (b"run @count", HEADER, ONE_PACKET, Status::Usage),
         (b"run app x", HEADER, ONE_PACKET, Status::Usage),
         (b"run @count x x", HEADER, ONE_PACKET, Status::Usage),
+        (b"run @count --frames x", HEADER, ONE_PACKET, Status::Usage),
+        (
+            b"run @count x --frames x",
+            HEADER,
+            ONE_PACKET,
+            Status::Usage,
+        ),
         (b"run @count x", EQUAL_TERMS, b"", terms),
         (b"run @count x", HEADER, b"alarm s0\n", not_yet),
         (b"run @count x", b"", b"", form),

@@ -1,12 +1,12 @@
 //! The top call: what the program does over any inputs, sink, link and clock.
-ghost use Rattle.std.specs.Prelude.{◌≡◌, [], None, Some, Err, IfSome, IfOk, IfErr, IsOk, IsErrOf, option_map};
+ghost use Rattle.std.specs.Prelude.{◌≡◌, [], None, Some, Err, IfSome, IfOk, IfErr, IsOk, IsErrOf, drop, option_map};
 ghost use Rattle.rp_base.specs.Outside.{Grows, Rose};
 ghost use Rattle.rp_world.specs.Running.{IsSetup};
 ghost use Rattle.sched_lang.specs.Reading.{schedule_of};
 ghost use Rattle.sched_lang.specs.Ready.{IsReady};
 ghost use Rattle.rp_cli.specs.Reports.{setup_of as setup_for, IsLegalRun};
 ghost use Rattle.rp_cli.specs.Seen.{seen};
-ghost use Rattle.rp_cli.specs.Top.{form_of, asked, outcome, read_or_refused, schedule_in, program_in, Answers, Loads, IsOkWith, IsAnswerTo, IsBeforeRun, IsAfterRun, IsNoSchedule, IsNoProgram, IsDoneOrNoMemory};
+ghost use Rattle.rp_cli.specs.Top.{form_of, frames_by, asked, outcome, read_or_refused, schedule_in, program_in, Answers, Loads, IsOkWith, IsAnswerTo, IsBeforeRun, IsAfterRun, IsNoSchedule, IsNoProgram, IsDoneOrNoMemory};
 
 use crate::running::{Stop, write_report};
 use crate::status::Status;
@@ -24,27 +24,36 @@ const SCHEDULE_LIMIT: u64 = 4194304;
 
 /// What a command line asks for.
 enum Command<'a> {
-    /// The report of this schedule, in which packets are counted.
-    Count(&'a [u8]),
+    /// The report of this schedule, in which packets are counted, with the frames that are sent or without them.
+    Count(bool, &'a [u8]),
     /// A run of this program.
     Program(&'a [u8]),
+}
+
+// Whether frames are asked for, by the words behind the third; `None` exactly where they have no form.
+fn frames_of(words: &Words) -> Option<bool>
+    ensures { result ≡ frames_by (drop 3 words.now) }
+{
+    match words.at(3) {
+        None => Some(false),
+        Some(word) if word.as_slice() == b"--frames".as_slice() && words.len() == 4 => Some(true),
+        Some(_) => None,
+    }
 }
 
 // What the words ask for; `None` exactly where they have no form.
 fn command_of(words: &Words) -> Option<Command<'_>>
     ensures { option_map seen result ≡ form_of words.now }
 {
-    if words.len() != 3 {
-        return None;
-    }
     let first = words.at(0)?;
     let app = words.at(1)?;
     let schedule = words.at(2)?;
     if first.as_slice() != b"run".as_slice() {
         return None;
     }
+    let frames = frames_of(words)?;
     if app.as_slice() == b"@count".as_slice() {
-        Some(Command::Count(schedule.as_slice()))
+        Some(Command::Count(frames, schedule.as_slice()))
     } else {
         Some(Command::Program(app.as_slice()))
     }
@@ -145,12 +154,12 @@ pub fn rp_main<I: Inputs, K: Sink, L: Link, C: Clock>(
     match command_of(words) {
         None => Status::Usage,
         Some(Command::Program(name)) => unbuilt(alloc, name, inputs),
-        Some(Command::Count(name)) => match loaded(alloc, name, inputs) {
+        Some(Command::Count(frames, name)) => match loaded(alloc, name, inputs) {
             Err(status) => status,
             Ok(schedule) => {
                 let setup = setup_of(&schedule);
                 let events = schedule.events.as_slice();
-                match write_report(alloc, CountApp { alloc }, &setup, events, out) {
+                match write_report(alloc, CountApp { alloc }, &setup, frames, events, out) {
                     Ok(()) => Status::Done,
                     Err(Stop::Failed) => Status::OutputFault,
                     Err(Stop::NoMemory) => Status::NoMemory,

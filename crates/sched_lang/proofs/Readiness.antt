@@ -30,7 +30,7 @@ packet-fits word =
     (IfOk-cond (λ bytes. length bytes ≤ 1500) (bytes_eq word (codes "-")) (Ok []) (packet_in (decode_of word)) (omega arith) (packet_in-fits (decode_of word)))
 
 -- what is built of an event that is read
-abbrev IsBuilt : Result Event SchedWhy → Type 0
+abbrev pub IsBuilt : Result Event SchedWhy → Type 0
 IsBuilt read = IfOk (if_built event_built read) IsBuiltEvent
 
 fed : (port : Result ℕ SchedWhy) (bytes : Result (List ℕ) SchedWhy) → IfOk bytes (λ bytes. length bytes ≤ 1500) → IsBuilt (both port bytes >>= λ x. Ok (Event.Feed x.0 x.1))
@@ -63,7 +63,7 @@ next-built : (end : Result (Unit {0}) SchedWhy) → IsBuilt (end >>= λ x. Ok Ev
 next-built (Ok x) = tt
 next-built (Err e) = tt
 
-event_form-built : (switches chain : ℕ) (which : Option Kind) (args : List (List ℕ)) → IsBuilt (event_form switches chain which args)
+pub event_form-built : (switches chain : ℕ) (which : Option Kind) (args : List (List ℕ)) → IsBuilt (event_form switches chain which args)
 event_form-built switches chain None args = tt
 event_form-built switches chain (Some kind.Feed) args = feed-built args
 event_form-built switches chain (Some kind.FeedAt) args = other-behind (λ (x : ℕ × (ℕ × List ℕ)). Event.FeedAt x.0 x.1.0 x.1.1) (λ x. refl) (three args) (λ ws. both (switch switches ws.0) (both (number 0 65535 ws.1) (packet ws.2)))

@@ -8,7 +8,7 @@ mod reading;
 mod schedule;
 mod words;
 
-pub use reading::read;
+pub use reading::{accepted_schedules_are_ready, read};
 pub use schedule::{Events, SchedEnd, SchedWhy, Schedule};
 
 #[cfg(test)]

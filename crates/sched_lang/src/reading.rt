@@ -1,5 +1,5 @@
 //! A whole text.
-ghost use Rattle.std.specs.Prelude.{◌≡◌, ◌+◌, ◌≤◌, ◌<◌, ◌++◌, length, All, IfOk, IfSome};
+ghost use Rattle.std.specs.Prelude.{◌≡◌, ℕ, List, ◌+◌, ◌≤◌, ◌<◌, ◌++◌, length, All, IfOk, IfSome};
 ghost use Rattle.sched_lang.specs.Words.{lines};
 ghost use Rattle.sched_lang.specs.Ready.{IsBuiltEvent, IsHeader, IsReady};
 ghost use Rattle.sched_lang.specs.Reading.{Gives, at_line, next_line, header, event_in, events_from, schedule_of};
@@ -151,3 +151,9 @@ pub fn read(alloc: Global, b: &[u8]) -> Result<Schedule, SchedEnd>
         events,
     })
 }
+
+/// Each schedule that is accepted is ready to run: one switch and one replica, terms in their ranges that hold, strict mode,
+/// and at most 20,000 events that are built.
+pub fn accepted_schedules_are_ready()
+    ensures { (text : List ℕ) → IfOk (schedule_of text) IsReady }
+{}

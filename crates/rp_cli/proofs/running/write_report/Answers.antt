@@ -16,10 +16,10 @@ use Rattle.rp_cli.proofs.running.write_report.Goals as goal
 pub loop-event-init : goal.loop-event-init
 loop-event-init g c =
     let app = g.A.App.meaning c.args.app in
-    let whole = report_text app c.args.setup.now c.args.events.now in
+    let whole = report_text c.args.frames app c.args.setup.now c.args.events.now in
     let here = g.K.Sink.written c.args.out.now in
     let P : List ℕ → Type 0 = λ rest. Midway here here whole rest in
-    let begun = subst P (report_text-is app c.args.setup.now c.args.events.now) (Midway-begun here whole) in
+    let begun = subst P (report_text-is c.args.frames app c.args.setup.now c.args.events.now) (Midway-begun here whole) in
     record {
       same_app = rw c.in_ok-world.ensures refl;
       count = rw c.in_ok-world.ensures refl;
@@ -33,7 +33,7 @@ loop-event-preserved g c =
     let i = c.loop-event.event-index in
     let on : (c.on.new.self.world, c.in_ok-lines.lines) ≡ stepped app c.loop-event.world.world c.event-item.result =
     rw c.loop-event.invariant.same_app at c.in_ok-lines.ensures.ok in
-    let cut = rest_text-on app c.loop-event.world.world c.on.new.self.world c.args.events.now i c.event-item.result c.in_ok-lines.lines (omega arith) c.event-item.is on in
+    let cut = rest_text-on c.args.frames app c.loop-event.world.world c.on.new.self.world c.args.events.now i c.event-item.result c.in_ok-lines.lines (omega arith) c.event-item.is on in
     let number : World × List Line → ℕ = λ p. p.0.event in
     record {
       same_app = c.on.ensures.app ∙ c.loop-event.invariant.same_app;
@@ -63,7 +63,7 @@ returns-in_err-write_lines-clause-err g c =
     let i = c.loop-event.event-index in
     let on : (c.on.new.self.world, c.in_ok-lines.lines) ≡ stepped app c.loop-event.world.world c.event-item.result =
     rw c.loop-event.invariant.same_app at c.in_ok-lines.ensures.ok in
-    let cut = rest_text-on app c.loop-event.world.world c.on.new.self.world c.args.events.now i c.event-item.result c.in_ok-lines.lines (omega arith) c.event-item.is on in
+    let cut = rest_text-on c.args.frames app c.loop-event.world.world c.on.new.self.world c.args.events.now i c.event-item.result c.in_ok-lines.lines (omega arith) c.event-item.is on in
     on_err c.from_residual-in_err-write_lines.result (Midway-part _ _ _ _ _ _ (rw cut at c.loop-event.invariant.midway) (rw c.as_slice.ensures at c.in_err-write_lines.ensures.err))
 
 pub write_lines-requires-2 : goal.write_lines-requires-2
@@ -76,8 +76,8 @@ returns-clause-err g c =
     let app = g.A.App.meaning c.args.app in
     let last : c.as_slice-2.result.now ≡ shown (end_lines app.cell_count c.loop-event.world.world) =
     c.as_slice-2.ensures ∙ (rw c.loop-event.invariant.same_app at c.in_ok-lines-2.ensures.ok) in
-    let left : rest_text app c.loop-event.world.world (drop c.loop-event.event-index c.args.events.now) ≡ lines_text c.as_slice-2.result.now ++ [] =
-    rest_text-end app c.loop-event.world.world c.args.events.now c.loop-event.event-index (omega arith) ∙ ap lines_text (sym last) ∙ sym (append-nil _) in
+    let left : rest_text c.args.frames app c.loop-event.world.world (drop c.loop-event.event-index c.args.events.now) ≡ lines_text c.as_slice-2.result.now ++ [] =
+    rest_text-end c.args.frames app c.loop-event.world.world c.args.events.now c.loop-event.event-index (omega arith) ∙ ap lines_text (sym last) ∙ sym (append-nil _) in
     let midway = rw left at c.loop-event.invariant.midway in
     on_err-map c.write_lines-2.result (λ part. Midway-part _ _ _ _ _ _ midway part) c.write_lines-2.ensures.err
 
@@ -86,7 +86,7 @@ returns-clause-ok g c =
     let app = g.A.App.meaning c.args.app in
     let last : c.as_slice-2.result.now ≡ shown (end_lines app.cell_count c.loop-event.world.world) =
     c.as_slice-2.ensures ∙ (rw c.loop-event.invariant.same_app at c.in_ok-lines-2.ensures.ok) in
-    let left : rest_text app c.loop-event.world.world (drop c.loop-event.event-index c.args.events.now) ≡ lines_text c.as_slice-2.result.now ++ [] =
-    rest_text-end app c.loop-event.world.world c.args.events.now c.loop-event.event-index (omega arith) ∙ ap lines_text (sym last) ∙ sym (append-nil _) in
+    let left : rest_text c.args.frames app c.loop-event.world.world (drop c.loop-event.event-index c.args.events.now) ≡ lines_text c.as_slice-2.result.now ++ [] =
+    rest_text-end c.args.frames app c.loop-event.world.world c.args.events.now c.loop-event.event-index (omega arith) ∙ ap lines_text (sym last) ∙ sym (append-nil _) in
     let midway = rw left at c.loop-event.invariant.midway in
     on_ok-map c.write_lines-2.result (λ whole. Midway-whole _ _ _ (Midway-more _ _ _ _ _ _ midway whole)) c.write_lines-2.ensures.ok

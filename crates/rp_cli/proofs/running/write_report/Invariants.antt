@@ -8,6 +8,6 @@ abbrev pub invariant-loop-event : goal.invariant-loop-event
 invariant-loop-event g l = record {
   same_app : l.world.app ≡ l.fn.app;
   count : l.world.world.event ≡ l.event-index;
-  midway : Midway (g.K.Sink.written l.fn.out) (g.K.Sink.written l.out) (report_text (g.A.App.meaning l.fn.app) l.setup l.events) (rest_text (g.A.App.meaning l.fn.app) l.world.world (drop l.event-index l.events));
+  midway : Midway (g.K.Sink.written l.fn.out) (g.K.Sink.written l.out) (report_text l.frames (g.A.App.meaning l.fn.app) l.setup l.events) (rest_text l.frames (g.A.App.meaning l.fn.app) l.world.world (drop l.event-index l.events));
   later : g.K.Sink.faults l.fn.out ≤ g.K.Sink.faults l.out;
 }

@@ -5,8 +5,8 @@ use Rattle.rp_cli.proofs.top.rp_main.Goals as goal
 
 pub returns-in-Ok-write_report-clause-legal : goal.returns-in-Ok-write_report-clause-legal
 returns-in-Ok-write_report-clause-legal g c =
-    legal_asked (g.I.Inputs.contents c.args.inputs.now) c.args.words.now c.in-Some-Count.name.now c.in-Ok.schedule (sym c.command_of.ensures ∙ ap (option_map seen) c.in-Some-Count.is ∙ ap (λ read. Some (seen read)) c.in-Some-Count.field-0-is) c.in-Ok.ensures.ready c.in-Ok.ensures.told
+    legal_asked _ (g.I.Inputs.contents c.args.inputs.now) c.args.words.now c.in-Some-Count.frames c.in-Some-Count.name.now c.in-Ok.schedule (sym c.command_of.ensures ∙ ap (option_map seen) c.in-Some-Count.is ∙ ap (λ read. Some (seen read)) c.in-Some-Count.field-0-is) c.in-Ok.ensures.ready c.in-Ok.ensures.told
 
 pub returns-in-Err-Failed-clause-legal : goal.returns-in-Err-Failed-clause-legal
 returns-in-Err-Failed-clause-legal g c =
-    legal_asked (g.I.Inputs.contents c.args.inputs.now) c.args.words.now c.in-Some-Count.name.now c.in-Ok.schedule (sym c.command_of.ensures ∙ ap (option_map seen) c.in-Some-Count.is ∙ ap (λ read. Some (seen read)) c.in-Some-Count.field-0-is) c.in-Ok.ensures.ready c.in-Ok.ensures.told
+    legal_asked _ (g.I.Inputs.contents c.args.inputs.now) c.args.words.now c.in-Some-Count.frames c.in-Some-Count.name.now c.in-Ok.schedule (sym c.command_of.ensures ∙ ap (option_map seen) c.in-Some-Count.is ∙ ap (λ read. Some (seen read)) c.in-Some-Count.field-0-is) c.in-Ok.ensures.ready c.in-Ok.ensures.told
