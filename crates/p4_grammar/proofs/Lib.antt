@@ -9,3 +9,4 @@ pub mod Called
 pub mod Alone
 pub mod Factored
 pub mod Plain
+pub mod Higher
