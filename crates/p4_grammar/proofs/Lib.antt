@@ -10,3 +10,4 @@ pub mod Alone
 pub mod Factored
 pub mod Plain
 pub mod Higher
+pub mod Paths
