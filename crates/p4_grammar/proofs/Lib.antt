@@ -11,3 +11,4 @@ pub mod Factored
 pub mod Plain
 pub mod Higher
 pub mod Paths
+pub mod PathsSame
