@@ -12,3 +12,4 @@ pub mod Plain
 pub mod Higher
 pub mod Paths
 pub mod PathsSame
+pub mod Conditions
