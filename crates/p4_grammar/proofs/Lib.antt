@@ -13,3 +13,4 @@ pub mod Higher
 pub mod Paths
 pub mod PathsSame
 pub mod Conditions
+pub mod Statements

@@ -196,7 +196,7 @@ or_none_at {t = t} h k y w m s u v e (inr d) c = ap (λ (q : List Token). hand t
 pub begins_or_none : {B : Type 0} {b : Bool} {t : Token → Bool} {K : Option P4Slice → Lang B} → ((at e : ℕ) → t (tok at e (lexeme.Sign sign.OpenSlice)) ≡ b) → ((s : Option P4Slice) → Begins b t (K s)) → Begins b t (bind slice_or_none K)
 begins_or_none h k = record { at = λ y w m d. or_none_at h k y w m d.0 d.1 d.2 d.3 d.4 d.5 }
 
-assigns_begins : {b : Bool} {t : Token → Bool} (env : Env) (xs : List P4Name) → ((at e : ℕ) → t (tok at e (lexeme.Sign sign.OpenSlice)) ≡ b) → ((at e : ℕ) → t (tok at e (lexeme.Sign sign.Assign)) ≡ b) → Begins b t (assigns env xs)
+pub assigns_begins : {b : Bool} {t : Token → Bool} (env : Env) (xs : List P4Name) → ((at e : ℕ) → t (tok at e (lexeme.Sign sign.OpenSlice)) ≡ b) → ((at e : ℕ) → t (tok at e (lexeme.Sign sign.Assign)) ≡ b) → Begins b t (assigns env xs)
 unfolding assigns
 assigns_begins env xs h k = begins_or_none h (λ s. sign_begins sign.Assign k)
 
