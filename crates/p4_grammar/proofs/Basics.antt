@@ -134,7 +134,7 @@ back s = refl
 sign_is : (s r : Sign) (at x : ℕ) → test (nat_eq (code s) (code r)) at ≡ Ok x → r ≡ s
 sign_is s r at x e = sym (back r) ∙ ap (λ n. nth n signs) (sym (eqb-true (code s) (code r) (given_yes (nat_eq (code s) (code r)) at x e))) ∙ back s
 
-lexeme_is : (s : Sign) (at x : ℕ) (l : Lexeme) → sign_of s at l ≡ Ok x → l ≡ lexeme.Sign s
+pub lexeme_is : (s : Sign) (at x : ℕ) (l : Lexeme) → sign_of s at l ≡ Ok x → l ≡ lexeme.Sign s
 lexeme_is s at x (lexeme.Sign r) e = ap lexeme.Sign (sign_is s r at x e)
 lexeme_is s at x (lexeme.Name text) e = absurd cc
 lexeme_is s at x (lexeme.Number value width) e = absurd cc

@@ -254,7 +254,7 @@ open_up k env y w (at, a, b, e, d, inr (x, a2, b2, e2, d2, (t3, a3, b3, e3, d3, 
 
 -- ---- operands
 
-down : (k : ℕ) (env : Env) (y : Spelled) (w : List Token) → unary_of env (unary k env) (expr_ k env) y w → funary env (unary k env) (expr_ k env) y w
+pub down : (k : ℕ) (env : Env) (y : Spelled) (w : List Token) → unary_of env (unary k env) (expr_ k env) y w → funary env (unary k env) (expr_ k env) y w
 unfolding unary_of funary signed split_primary plain
 down k env y w (inl d) = inl d
 down k env y w (inr (inl d)) = inr (inl (open_down k env y w (inl ((casting-same env (λ c. bind (unary k env) λ x. only (cast_value c.0 c.1 x))).to y w d))))
@@ -281,7 +281,7 @@ unfolding unary_of split_primary
 up_open k env y w (inl d) = inr (inl ((casting-same env (λ c. bind (unary k env) λ x. only (cast_value c.0 c.1 x))).back y w d))
 up_open k env y w (inr d) = up_parts k env y w (inr (inr (inr (inr (inr d)))))
 
-up : (k : ℕ) (env : Env) (y : Spelled) (w : List Token) → funary env (unary k env) (expr_ k env) y w → unary_of env (unary k env) (expr_ k env) y w
+pub up : (k : ℕ) (env : Env) (y : Spelled) (w : List Token) → funary env (unary k env) (expr_ k env) y w → unary_of env (unary k env) (expr_ k env) y w
 unfolding unary_of funary signed plain split_primary
 up k env y w (inl d) = inl d
 up k env y w (inr (inl d)) = up_open k env y w (open_up k env y w d)

@@ -114,7 +114,7 @@ lower4 b r (lexeme.Number x w) e = e
 lower4 b r (lexeme.Sign sign.Ask) e = absurd cc
 lower4 b r (lexeme.Sign s) e = e
 
-unread : (i : ℕ) (b r : Bool) (l : Lexeme) → goes_on i b false l ≡ false → goes_on i b r l ≡ false
+pub unread : (i : ℕ) (b r : Bool) (l : Lexeme) → goes_on i b false l ≡ false → goes_on i b r l ≡ false
 unread i b r (lexeme.Name x) e = e
 unread i b r (lexeme.Number x w) e = e
 unread i b r (lexeme.Sign sign.Open) e = absurd cc

@@ -9,3 +9,8 @@ pub mod Called
 pub mod Alone
 pub mod Factored
 pub mod Plain
+pub mod Higher
+pub mod Paths
+pub mod PathsSame
+pub mod Conditions
+pub mod Statements

@@ -95,15 +95,15 @@ plain-reads = choose-reads (in_hand sign.True) (sign-reads sign.True λ at. slic
     (sign_begins sign.False (λ at e. refl)) (number_begins (λ at e v w. refl)))
     (sign_begins sign.True (λ at e. refl)) (begins_either (sign_begins sign.False (λ at e. refl)) (number_begins (λ at e v w. refl)))
 
-plain_begins : {b : Bool} {t : Token → Bool} → ((at e : ℕ) → t (tok at e (lexeme.Sign sign.True)) ≡ b) → ((at e : ℕ) → t (tok at e (lexeme.Sign sign.False)) ≡ b) → ((at e value : ℕ) (width : Option ℕ) → t (tok at e (lexeme.Number value width)) ≡ b) → Begins b t plain
+pub plain_begins : {b : Bool} {t : Token → Bool} → ((at e : ℕ) → t (tok at e (lexeme.Sign sign.True)) ≡ b) → ((at e : ℕ) → t (tok at e (lexeme.Sign sign.False)) ≡ b) → ((at e value : ℕ) (width : Option ℕ) → t (tok at e (lexeme.Number value width)) ≡ b) → Begins b t plain
 unfolding plain
 plain_begins h i j = begins_either (sign_begins sign.True h) (begins_either (sign_begins sign.False i) (number_begins j))
 
-name_led_begins : {b : Bool} {t : Token → Bool} → ((at e : ℕ) (text : List ℕ) → t (tok at e (lexeme.Name text)) ≡ b) → Begins b t name_led
+pub name_led_begins : {b : Bool} {t : Token → Bool} → ((at e : ℕ) (text : List ℕ) → t (tok at e (lexeme.Name text)) ≡ b) → Begins b t name_led
 unfolding name_led
 name_led_begins h = name_begins h
 
-open_begins : {b : Bool} {t : Token → Bool} (env : Env) (U E : Lang Spelled) → ((at e : ℕ) → t (tok at e (lexeme.Sign sign.Open)) ≡ b) → Begins b t (open_ env U E)
+pub open_begins : {b : Bool} {t : Token → Bool} (env : Env) (U E : Lang Spelled) → ((at e : ℕ) → t (tok at e (lexeme.Sign sign.Open)) ≡ b) → Begins b t (open_ env U E)
 unfolding open_
 open_begins env U E h = sign_begins sign.Open h
 
