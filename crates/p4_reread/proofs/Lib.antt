@@ -1,0 +1,2 @@
+pub mod LexFound
+pub mod LexDigits
