@@ -1,2 +1,5 @@
 pub mod LexFound
 pub mod LexDigits
+pub mod Again
+pub mod AgainPlain
+pub mod AgainExprs

@@ -4,3 +4,7 @@
 mod lexemes;
 
 pub use lexemes::tokens_are_lexemes;
+//! Canonical text read again: its tokens, and the tree that they spell.
+#![tactic(auto)]
+
+mod trees;

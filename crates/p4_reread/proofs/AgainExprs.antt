@@ -1,0 +1,2 @@
+-- Expressions are spelled again by their canonical tokens.
+use Rattle.std.proofs.Common.{◌≡◌}
