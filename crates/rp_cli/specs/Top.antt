@@ -1,12 +1,12 @@
 -- What the program answers, and what it writes.
-use Rattle.std.specs.Prelude.{◌≡◌, ℕ, Bool, true, false, List, [], ◌∷◌, if◌then◌else◌, Option, Some, None, option_map, Result, Ok, Err, codes}
+use Rattle.std.specs.Prelude.{◌≡◌, ℕ, Bool, true, false, List, [], ◌∷◌, if◌then◌else◌, Option, Some, None, option_map, Result, Ok, Err, IfOk, codes}
 use Rattle.std.specs.Str.{bytes_eq}
 use Rattle.rp_base.specs.Outside.{Grows, GrowsByFront}
 use Rattle.sched_lang.specs.declared.schedule.Schedule.{Schedule}
 use Rattle.sched_lang.specs.Reading.{Fault, schedule_of}
 use Rattle.rp_cli.specs.declared.status.Status.{Status}
 use Rattle.rp_cli.specs.declared.status.Status.TheVariants as status
-use Rattle.rp_cli.specs.Reports.{counting_report}
+use Rattle.rp_cli.specs.Reports.{counting_report, IsLegalRun}
 
 -- ---- the command
 
@@ -102,15 +102,6 @@ IsBeforeRun status.InputFault = Unit {0}
 IsBeforeRun status.OutputFault = ⊥
 IsBeforeRun status.NoMemory = ⊥
 
--- the answers after a run began, whatever memory was wanting
-abbrev pub IsAfterRun : Status → Type 0
-IsAfterRun status.Done = Unit {0}
-IsAfterRun status.Usage = ⊥
-IsAfterRun (status.ScheduleRefused line why) = ⊥
-IsAfterRun status.InputFault = ⊥
-IsAfterRun status.OutputFault = Unit {0}
-IsAfterRun status.NoMemory = ⊥
-
 -- the answers where nothing is wrong but that memory may be wanting
 abbrev pub IsDoneOrNoMemory : Status → Type 0
 IsDoneOrNoMemory status.Done = Unit {0}
@@ -130,10 +121,19 @@ Loads (Err status.InputFault) expected = Unit {0}
 Loads (Err status.OutputFault) expected = ⊥
 Loads (Err status.NoMemory) expected = Unit {0}
 
--- This holds of the schedule.
+-- There is a schedule, and this holds of it.
 abbrev pub IsOkWith : (Schedule → Type 0) → Result Schedule Status → Type 0
 IsOkWith P (Ok s) = P s
 IsOkWith P (Err answer) = ⊥
+
+-- After these answers what was written is the report, or a front of it, of a legal run. Memory may run out before a run begins.
+abbrev pub IsLegalAfter : Status → Result Schedule Status → Type 0
+IsLegalAfter status.Done asked = IsOkWith IsLegalRun asked
+IsLegalAfter status.Usage asked = Unit {0}
+IsLegalAfter (status.ScheduleRefused line why) asked = Unit {0}
+IsLegalAfter status.InputFault asked = Unit {0}
+IsLegalAfter status.OutputFault asked = IsOkWith IsLegalRun asked
+IsLegalAfter status.NoMemory asked = IfOk asked IsLegalRun
 
 -- the answers in place of a schedule
 abbrev pub IsNoSchedule : Status → Type 0

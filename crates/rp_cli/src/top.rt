@@ -4,9 +4,9 @@ ghost use Rattle.rp_base.specs.Outside.{Grows, Rose};
 ghost use Rattle.rp_world.specs.Running.{IsSetup};
 ghost use Rattle.sched_lang.specs.Reading.{schedule_of};
 ghost use Rattle.sched_lang.specs.Ready.{IsReady};
-ghost use Rattle.rp_cli.specs.Reports.{setup_of as setup_for, IsLegalRun};
+ghost use Rattle.rp_cli.specs.Reports.{setup_of as setup_for};
 ghost use Rattle.rp_cli.specs.Seen.{seen};
-ghost use Rattle.rp_cli.specs.Top.{form_of, frames_by, asked, outcome, read_or_refused, schedule_in, program_in, Answers, Loads, IsOkWith, IsAnswerTo, IsBeforeRun, IsAfterRun, IsNoSchedule, IsNoProgram, IsDoneOrNoMemory};
+ghost use Rattle.rp_cli.specs.Top.{form_of, frames_by, asked, outcome, read_or_refused, schedule_in, program_in, Answers, Loads, IsLegalAfter, IsAnswerTo, IsBeforeRun, IsNoSchedule, IsNoProgram, IsDoneOrNoMemory};
 
 use crate::running::{Stop, write_report};
 use crate::status::Status;
@@ -139,7 +139,7 @@ pub fn rp_main<I: Inputs, K: Sink, L: Link, C: Clock>(
         Answers result (outcome words.now contents) (K.written out.old) (K.written out.new)) }
     // what was written, whole or in part, is the report of a run that one switch could have shown
     ensures legal { IfSome (I.contents inputs.old) (λ contents.
-        IsAfterRun result → IsOkWith IsLegalRun (asked words.now contents)) }
+        IsLegalAfter result (asked words.now contents)) }
     ensures complete { IfSome (I.contents inputs.old) (λ contents. IsOk (outcome words.now contents) →
         ¬ Rose (I.faults inputs.old) (I.faults inputs.new) → ¬ Rose (K.faults out.old) (K.faults out.new) → IsDoneOrNoMemory result) }
 
