@@ -14,3 +14,4 @@ pub mod Paths
 pub mod PathsSame
 pub mod Conditions
 pub mod Statements
+pub mod Keysets
