@@ -128,11 +128,11 @@ any_same at e (lexeme.Sign s) = refl
 not_any : {A : Type 0} {L : Lang A} → Begins true begins_operand L → Begins false (in_hand sign.Any) L
 not_any {L = L} h = begins_map false begins_operand (in_hand sign.Any) L (λ a e. any_same a.at a.end a.lexeme ∙ operand_any a.lexeme e) h
 
-one-is : (env : Env) (o : P4One) (w : List Token) → one_ env o w → either any (bind (expr env) (masked env)) o w
+pub one-is : (env : Env) (o : P4One) (w : List Token) → one_ env o w → either any (bind (expr env) (masked env)) o w
 unfolding one_ any masked
 one-is env o w d = d
 
-one-was : (env : Env) (o : P4One) (w : List Token) → either any (bind (expr env) (masked env)) o w → one_ env o w
+pub one-was : (env : Env) (o : P4One) (w : List Token) → either any (bind (expr env) (masked env)) o w → one_ env o w
 unfolding one_ any masked
 one-was env o w d = d
 
@@ -213,7 +213,7 @@ open_begins_ : {b : Bool} {t : Token → Bool} (env : Env) → ((at e : ℕ) →
 unfolding open_keyset
 open_begins_ env h = sign_begins sign.Open h
 
-fkeyset-reads : {n : ℕ} (env : Env) → Reads n (fkeyset env (without (in_hand sign.Open) (one_ env))) (fkeyset env (one_ env)) (λ k. EM) (keyset_at n env)
+pub fkeyset-reads : {n : ℕ} (env : Env) → Reads n (fkeyset env (without (in_hand sign.Open) (one_ env))) (fkeyset env (one_ env)) (λ k. EM) (keyset_at n env)
 unfolding fkeyset keyset_at
 fkeyset-reads {n = n} env = choose-reads (in_hand sign.Default) (sign-reads sign.Default λ at. done-reads n _ (keyset.Default at))
     (choose-reads (in_hand sign.Open) (open_keyset-reads env)

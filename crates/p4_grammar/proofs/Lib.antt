@@ -15,3 +15,4 @@ pub mod PathsSame
 pub mod Conditions
 pub mod Statements
 pub mod Keysets
+pub mod KeysetsSame
