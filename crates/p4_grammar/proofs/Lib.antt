@@ -16,3 +16,4 @@ pub mod Conditions
 pub mod Statements
 pub mod Keysets
 pub mod KeysetsSame
+pub mod States
