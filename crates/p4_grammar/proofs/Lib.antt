@@ -14,3 +14,6 @@ pub mod Paths
 pub mod PathsSame
 pub mod Conditions
 pub mod Statements
+pub mod Keysets
+pub mod KeysetsSame
+pub mod States

@@ -142,7 +142,7 @@ module _ (n : ℕ) (env : Env) (D U D2 U2 : Lang Spelled) (p q : Reader Spelled)
     end_is E [] e = refl
     end_is E (a ∷ m) e = e
 
-  parens-reads : (at : ℕ) (o : Option P4Name) (e : P4Expr) → Reads n (parens at o D e) (parens at o U e) (V 0) (parens_at at o p e)
+  pub parens-reads : (at : ℕ) (o : Option P4Name) (e : P4Expr) → Reads n (parens at o D e) (parens at o U e) (V 0) (parens_at at o p e)
   unfolding parens parens_at
   parens-reads at None e = sliced-reads (parens_value at e mark.Plain)
   parens-reads at (Some x) e = either-reads n begins_operand _ _ (V 0) _ _ _ _

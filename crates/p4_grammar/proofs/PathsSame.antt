@@ -194,7 +194,7 @@ write_back env (Some q) P y w (inr d) = inl d
 or_write-same : (env : Env) (o : Option P4Name) (P : Lang Piece) → Same (either P (λ z u. (c : P4Name) × (o ≡ Some c) × write_rest env c z u)) (or_write env o P)
 or_write-same env o P = record { to = write_to env o P; back = write_back env o P }
 
-both : {L M : P4Name → List P4Name → Lang Piece} → Same (either (bind (taken name) λ x. bind names λ xs. L x xs) (bind (taken name) λ x. bind names λ xs. M x xs)) (bind (taken name) λ x. bind names λ xs. either (L x xs) (M x xs))
+pub both : {A : Type 0} {L M : P4Name → List P4Name → Lang A} → Same (either (bind (taken name) λ x. bind names λ xs. L x xs) (bind (taken name) λ x. bind names λ xs. M x xs)) (bind (taken name) λ x. bind names λ xs. either (L x xs) (M x xs))
 both = factor then same_bind same (λ x. factor)
 
 -- the statements that begin with a path
