@@ -1,2 +1,5 @@
 pub mod LexFound
 pub mod LexDigits
+pub mod LexWords
+pub mod LexSigns
+pub mod LexAgain

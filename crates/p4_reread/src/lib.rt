@@ -3,4 +3,4 @@
 
 mod lexemes;
 
-pub use lexemes::tokens_are_lexemes;
+pub use lexemes::{canonical_tokens_are_read_again, tokens_are_lexemes};
