@@ -10,7 +10,7 @@ use Rattle.p4_lex.specs.Spelling.{spelling}
 use Rattle.p4_lex.specs.Lexing.{◌>>=◌, directive, front, token_of, tokens_from, tokens, longest}
 use Rattle.p4_print.specs.Text.{behind, number_text, piece, text}
 use Rattle.p4_print.specs.Programs.{includes}
-use Rattle.p4_reread.specs.Lexemes.{IsLexeme, AreLexemes, lexemes_of}
+use Rattle.p4_reread.specs.Lexemes.{IsLexeme, AreLexemes, lexemes, lexemes_of}
 use Rattle.p4_reread.proofs.LexWords.{Spells, nothing-before, name-spells, number-spells}
 use Rattle.p4_reread.proofs.LexSigns.{sign-spells}
 
@@ -74,3 +74,15 @@ short-again bytes what short h = let fits : nat_lt longest (length bytes) ≡ fa
 -- the canonical text of lexemes is read as these
 pub canonical-again : (ls : List Lexeme) → AreLexemes ls → length (includes ++ text ls) ≤ longest → lexemes_of (tokens (includes ++ text ls)) ≡ Ok ls
 canonical-again ls are short = short-again (includes ++ text ls) (Ok ls) short (included (text ls) (Ok ls) (text-again ls are))
+
+abbrev ok_or_none : List Lexeme → Result (List Lexeme) Refused → List Lexeme
+ok_or_none ls (Ok ms) = ms
+ok_or_none ls (Err e) = ls
+
+of-tokens : (read : Result (List Token) Refused) (ls : List Lexeme) → lexemes_of read ≡ Ok ls → (ts : List Token) × (read ≡ Ok ts) × (lexemes ts ≡ ls)
+of-tokens (Ok ts) ls h = (ts, refl, ap (ok_or_none ls) h)
+of-tokens (Err e) ls h = absurd cc
+
+-- the same, with the tokens
+pub canonical-tokens : (ls : List Lexeme) → AreLexemes ls → length (includes ++ text ls) ≤ longest → (ts : List Token) × (tokens (includes ++ text ls) ≡ Ok ts) × (lexemes ts ≡ ls)
+canonical-tokens ls are short = of-tokens (tokens (includes ++ text ls)) ls (canonical-again ls are short)

@@ -1,10 +1,10 @@
 -- What a written piece begins with: a whole token, and then a blank or a line feed.
 use Rattle.std.proofs.Common.{◌≡◌, ℕ, suc, ◌+◌, ◌≤◌, List, [], ◌∷◌, ◌++◌, length, take, Bool, true, false, Option, Some, None, Result, Ok, Err, nat_eq, refl, sym, ap, ◌∙◌, true≢false, arith}
-use Rattle.std.specs.Prelude.{if◌then◌else◌, ◌&&◌, ◌||◌, decimal}
+use Rattle.std.specs.Prelude.{if◌then◌else◌, ◌&&◌, decimal}
 use Rattle.std.specs.List.{prefix_len, list_all}
 use Rattle.std.specs.Char.{is_ascii_digit}
 use Rattle.std.proofs.Math.Seq.{take-append_seam}
-use Rattle.std.proofs.lemmas.Bool.{and_parts, and_from}
+use Rattle.std.proofs.lemmas.Bool.{and_parts, and_from, or_left, or_right}
 use Rattle.std.proofs.lemmas.List.{append-nil}
 use Rattle.std.proofs.lemmas.List.Folds.{list_all-append}
 use Rattle.std.proofs.lemmas.Bool.Decides.{nat_tests}
@@ -79,14 +79,7 @@ no-digit : (c : ℕ) → 58 ≤ c → is_ascii_digit c ≡ false
 no-digit c h = grind (arith, nat_tests)
 
 digit-goes_on : (c : ℕ) → is_ascii_digit c ≡ true → goes_on c ≡ true
-digit-goes_on c h = by (begins_name c)
-  where
-    by : (b : Bool) → (b || is_ascii_digit c) ≡ true
-    by true = refl
-    by false = h
-
-letter-goes_on : (c : ℕ) → begins_name c ≡ true → goes_on c ≡ true
-letter-goes_on c h = rw h refl
+digit-goes_on c h = or_right (begins_name c) (is_ascii_digit c) h
 
 -- a word ends before a blank
 whole-front : (at : ℕ) (fresh : Bool) (c : ℕ) (cs rest : List ℕ) → 48 ≤ c → list_all goes_on (c ∷ cs) ≡ true
@@ -109,7 +102,7 @@ name-reads at fresh (c ∷ cs) rest h =
     let bytes : List ℕ = c ∷ (cs ++ 32 ∷ rest) in
     let shape = and_parts (begins_name c) (list_all goes_on cs) h.shape in
     let high : 58 ≤ c = letter-high c shape.0 in
-    whole-front at fresh c cs rest (omega arith) (and_from (goes_on c) (list_all goes_on cs) (letter-goes_on c shape.0) shape.1)
+    whole-front at fresh c cs rest (omega arith) (and_from (goes_on c) (list_all goes_on cs) (or_left (begins_name c) (is_ascii_digit c) shape.0) shape.1)
     ∙ ap (λ b. by_first at bytes b (begins_name c) (suc (length cs)) (c ∷ cs)) (no-digit c high)
     ∙ ap (λ b. by_first at bytes false b (suc (length cs)) (c ∷ cs)) shape.0
     ∙ named-piece (c ∷ cs) h
