@@ -3,3 +3,6 @@ pub mod LexDigits
 pub mod LexWords
 pub mod LexSigns
 pub mod LexAgain
+pub mod Again
+pub mod AgainPlain
+pub mod AgainExprs
