@@ -10,7 +10,8 @@ use Rattle.p4_lex.specs.Spelling.{spelling}
 use Rattle.p4_lex.specs.Lexing.{◌>>=◌, directive, front, token_of, tokens_from, tokens, longest}
 use Rattle.p4_print.specs.Text.{behind, number_text, piece, text}
 use Rattle.p4_print.specs.Programs.{includes}
-use Rattle.p4_reread.specs.Lexemes.{IsLexeme, AreLexemes, lexemes, lexemes_of}
+use Rattle.p4_reread.specs.Lexemes.{IsLexeme, AreLexemes, lexemes_of}
+use Rattle.p4_reread.specs.Again.{lexemes}
 use Rattle.p4_reread.proofs.LexWords.{Spells, nothing-before, name-spells, number-spells}
 use Rattle.p4_reread.proofs.LexSigns.{sign-spells}
 
@@ -48,7 +49,7 @@ word-again (c ∷ cs) gap rest l ls s h at fresh =
     ap lexemes_of (from-front at fresh c more ∙ ap (then_read at more) (s.reads rest at fresh))
     ∙ token-before (record { at = at; end = at + suc (length cs); lexeme = l }) (tokens_from (suc (length cs) - 1) (at + 1) false more)
     ∙ ap (λ n. with_first l (lexemes_of (tokens_from n (at + 1) false more))) size
-    ∙ ap (with_first l) (skipped cs (gap ++ rest) (Ok ls) (s.parts.parts rest (Ok ls) h) (at + 1) false)
+    ∙ ap (with_first l) (skipped cs (gap ++ rest) (Ok ls) (s.ends.behind rest (Ok ls) h) (at + 1) false)
 
 spelled-again : (word gap rest : List ℕ) (l : Lexeme) (ls : List Lexeme) → Spells word gap l → ReadAs rest (Ok ls) → ReadAs ((word ++ gap) ++ rest) (Ok (l ∷ ls))
 spelled-again word gap rest l ls s h at fresh = ap (λ bytes. lexemes_of (tokens_from 0 at fresh bytes)) (append_assoc word gap rest) ∙ word-again word gap rest l ls s h at fresh

@@ -17,7 +17,8 @@ use Rattle.p4_lex.specs.Letters.{is_blank, begins_name, goes_on}
 use Rattle.p4_lex.specs.Words.{reserved}
 use Rattle.p4_lex.specs.Numbers.{figures, fitting, in_base, base_of, plain, width, number_at}
 use Rattle.p4_lex.specs.Lexing.{◌>>=◌, gap, fault, directive, comment, number_piece, word_lexeme, word_piece, sign_piece, front, token_of, tokens_from, tokens, longest}
-use Rattle.p4_reread.specs.Lexemes.{name_shape, IsNumber, IsLexeme, AreLexemes, lexemes}
+use Rattle.p4_reread.specs.Lexemes.{name_shape, IsNumber, IsLexeme, AreLexemes}
+use Rattle.p4_reread.specs.Again.{lexemes}
 
 -- numbers
 

@@ -6,7 +6,7 @@ use Rattle.p4_lex.specs.declared.token.Lexeme.TheVariants as lexeme
 use Rattle.p4_lex.specs.Spelling.{spelling}
 use Rattle.p4_lex.specs.Lexing.{front, word_piece}
 use Rattle.p4_print.specs.Text.{behind}
-use Rattle.p4_reread.proofs.LexWords.{Reads, Parts, Spells, blank, line_feed}
+use Rattle.p4_reread.proofs.LexWords.{Reads, Separates, Spells, blank, line_feed}
 
 -- this sign is read, at the line's begin or not
 abbrev ReadsSign : Sign → Bool → Type 0
@@ -16,8 +16,8 @@ both : (s : Sign) → ReadsSign s true → ReadsSign s false → (rest : List �
 both s p q rest at true = p rest at
 both s p q rest at false = q rest at
 
-so : (s : Sign) → Parts (behind s) → ReadsSign s true → ReadsSign s false → Spells (spelling s) (behind s) (lexeme.Sign s)
-so s parts p q = record { reads = both s p q; parts = parts }
+so : (s : Sign) → Separates (behind s) → ReadsSign s true → ReadsSign s false → Spells (spelling s) (behind s) (lexeme.Sign s)
+so s gap p q = record { reads = both s p q; ends = gap }
 
 pub sign-spells : (s : Sign) → Spells (spelling s) (behind s) (lexeme.Sign s)
 unfolding front word_piece

@@ -27,26 +27,26 @@ Reads at fresh [] rest l = ⊥
 Reads at fresh (c ∷ cs) rest l = front at fresh c (c ∷ (cs ++ rest)) ≡ piece (suc (length cs)) l
 
 -- what stands behind a word separates tokens, whatever these are
-pub record Parts (gap : List ℕ) : Type 0 where
-  pub parts : (rest : List ℕ) (what : Result (List Lexeme) Refused) → ((at : ℕ) (fresh : Bool) → lexemes_of (tokens_from 0 at fresh rest) ≡ what)
+pub record Separates (gap : List ℕ) : Type 0 where
+  pub behind : (rest : List ℕ) (what : Result (List Lexeme) Refused) → ((at : ℕ) (fresh : Bool) → lexemes_of (tokens_from 0 at fresh rest) ≡ what)
       → (at : ℕ) (fresh : Bool) → lexemes_of (tokens_from 0 at fresh (gap ++ rest)) ≡ what
 
 -- a word and what stands behind it are read as one token
 pub record Spells (word gap : List ℕ) (l : Lexeme) : Type 0 where
   pub reads : (rest : List ℕ) (at : ℕ) (fresh : Bool) → Reads at fresh word (gap ++ rest) l
-  pub parts : Parts gap
+  pub ends : Separates gap
 
 pub nothing-before : (read : Result (List Token) Refused) (what : Result (List Lexeme) Refused) → lexemes_of read ≡ what → lexemes_of (read >>= λ more. Ok ([] ++ more)) ≡ what
 nothing-before (Ok ts) what h = h
 nothing-before (Err e) what h = h
 
-pub blank : Parts (32 ∷ [])
+pub blank : Separates (32 ∷ [])
 unfolding tokens_from front
-blank = record { parts = λ rest what h at fresh. nothing-before (tokens_from 0 (at + 1) fresh rest) what (h (at + 1) fresh) }
+blank = record { behind = λ rest what h at fresh. nothing-before (tokens_from 0 (at + 1) fresh rest) what (h (at + 1) fresh) }
 
-pub line_feed : Parts (10 ∷ [])
+pub line_feed : Separates (10 ∷ [])
 unfolding tokens_from front
-line_feed = record { parts = λ rest what h at fresh. nothing-before (tokens_from 0 (at + 1) true rest) what (h (at + 1) true) }
+line_feed = record { behind = λ rest what h at fresh. nothing-before (tokens_from 0 (at + 1) true rest) what (h (at + 1) true) }
 
 -- words
 
@@ -108,7 +108,7 @@ name-reads at fresh (c ∷ cs) rest h =
     ∙ named-piece (c ∷ cs) h
 
 pub name-spells : (word : List ℕ) → IsName word → Spells word (32 ∷ []) (lexeme.Name word)
-name-spells word h = record { reads = λ rest at fresh. name-reads at fresh word rest h; parts = blank }
+name-spells word h = record { reads = λ rest at fresh. name-reads at fresh word rest h; ends = blank }
 
 abbrev begins_so : (ℕ → Bool) → List ℕ → Bool
 begins_so p [] = false
@@ -143,4 +143,4 @@ number-reads-so at fresh rest value (Some width) h =
     (number-again value (Some width) h)
 
 pub number-spells : (value : ℕ) (width : Option ℕ) → IsNumber value width → Spells (number_text value width) (32 ∷ []) (lexeme.Number value width)
-number-spells value width h = record { reads = λ rest at fresh. number-reads-so at fresh rest value width h; parts = blank }
+number-spells value width h = record { reads = λ rest at fresh. number-reads-so at fresh rest value width h; ends = blank }

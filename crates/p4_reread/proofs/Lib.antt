@@ -1,8 +1,8 @@
+pub mod Again
+pub mod AgainPlain
+pub mod AgainExprs
 pub mod LexFound
 pub mod LexDigits
 pub mod LexWords
 pub mod LexSigns
 pub mod LexAgain
-pub mod Again
-pub mod AgainPlain
-pub mod AgainExprs

@@ -1,2 +1,2 @@
-pub mod Lexemes
 pub mod Again
+pub mod Lexemes
