@@ -98,7 +98,7 @@ whole h = record {
   kept = λ V s x w d a. subst (All V) (sym (h.left (λ q r same. same) x w d).is) ((h.left (λ q r same. same) x w d).kept V s a);
 }
 
-none_at : (v : List Token) → lexemes v ≡ [] → v ≡ []
+pub none_at : (v : List Token) → lexemes v ≡ [] → v ≡ []
 none_at [] n = refl
 none_at (t ∷ v) n = absurd cc
 
@@ -109,7 +109,7 @@ done {p = p} {f = f} {b = b} {x = x} {y = y} e g = record {
     is = ap f d.0 ∙ e;
     back = λ v n. (y, (refl, none_at v n), g ∙ ap b (sym d.0));
     kept = λ V s a. tt;
-  }
+  };
 }
 
 pub ends : {Y C : Type 0} {ts : List Lexeme} {f : Y → List Lexeme} {b : Y → C} {x y : Y} → f x ≡ ts → b y ≡ b x → Ended ts f b (only x) (only y)
@@ -188,7 +188,7 @@ onto {g = g} h same = record { left = λ apart y w d. record { more = g y; is = 
 
 -- ---- single tokens
 
-one_token : (v : List Token) (l : Lexeme) → lexemes v ≡ l ∷ [] → (t : Token) × (v ≡ t ∷ []) × (t.lexeme ≡ l)
+pub one_token : (v : List Token) (l : Lexeme) → lexemes v ≡ l ∷ [] → (t : Token) × (v ≡ t ∷ []) × (t.lexeme ≡ l)
 one_token [] l e = absurd cc
 one_token (t ∷ []) l e = (t, refl, cc)
 one_token (t ∷ s ∷ v) l e = absurd cc

@@ -4,8 +4,7 @@ use Rattle.std.specs.Prelude.{if◌then◌else◌, ◌&&◌, option_and_then, co
 use Rattle.std.specs.List.{prefix_len, list_all, starts_with}
 use Rattle.std.specs.Str.{bytes_eq}
 use Rattle.std.specs.Char.{is_ascii_digit}
-use Rattle.std.proofs.lemmas.Bool.{and_parts, and_from}
-use Rattle.std.proofs.lemmas.Bool.Decides.{nat_tests}
+use Rattle.std.proofs.lemmas.Bool.{and_parts, and_from, leb-true, ltb-true}
 use Rattle.rp_base.specs.declared.refused.Refused.{Refused}
 use Rattle.rp_base.specs.declared.refused.Why.TheVariants as why
 use Rattle.p4_lex.specs.declared.front.Front.{Front}
@@ -18,7 +17,8 @@ use Rattle.p4_lex.specs.Letters.{is_blank, begins_name, goes_on}
 use Rattle.p4_lex.specs.Words.{reserved}
 use Rattle.p4_lex.specs.Numbers.{figures, fitting, in_base, base_of, plain, width, number_at}
 use Rattle.p4_lex.specs.Lexing.{◌>>=◌, gap, fault, directive, comment, number_piece, word_lexeme, word_piece, sign_piece, front, token_of, tokens_from, tokens, longest}
-use Rattle.p4_reread.specs.Lexemes.{name_shape, IsNumber, IsLexeme, AreLexemes, lexemes}
+use Rattle.p4_reread.specs.Lexemes.{name_shape, IsNumber, IsLexeme, AreLexemes}
+use Rattle.p4_reread.specs.Again.{lexemes}
 
 -- numbers
 
@@ -33,15 +33,9 @@ smaller : (b : Bool) (value : ℕ) → (b ≡ true → value < 2 ^ 128) → Belo
 smaller true value h = record { below = h refl }
 smaller false value h = record { below = tt }
 
-test-lt : (m n : ℕ) → nat_lt m n ≡ true → m < n
-test-lt m n h = grind (arith, nat_tests)
-
-test-le : (m n : ℕ) → nat_le m n ≡ true → m ≤ n
-test-le m n h = grind (arith, nat_tests)
-
 fitting-below : (read : Option ℕ) → Below (fitting read)
 fitting-below None = record { below = tt }
-fitting-below (Some value) = smaller (nat_lt value (2 ^ 128)) value (test-lt value (2 ^ 128))
+fitting-below (Some value) = smaller (nat_lt value (2 ^ 128)) value (ltb-true value (2 ^ 128))
 
 in_base-below : (base : Option ℕ) (ds whole : List ℕ) → Below (in_base base ds whole)
 in_base-below None ds whole = fitting-below (figures 10 false 0 whole)
@@ -65,7 +59,7 @@ ranged true w h = record { wide = h refl }
 ranged false w h = record { wide = tt }
 
 in_range : (w : ℕ) → (nat_le 1 w && nat_le w 128) ≡ true → (1 ≤ w) × (w ≤ 128)
-in_range w h = let both = and_parts (nat_le 1 w) (nat_le w 128) h in (test-le 1 w both.0, test-le w 128 both.1)
+in_range w h = let both = and_parts (nat_le 1 w) (nat_le w 128) h in (leb-true 1 w both.0, leb-true w 128 both.1)
 
 ranged-wide : (read : Option ℕ) → Wide (option_and_then (λ w. if nat_le 1 w && nat_le w 128 then Some w else None) read)
 ranged-wide None = record { wide = tt }

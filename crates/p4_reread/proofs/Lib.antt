@@ -3,3 +3,8 @@ pub mod LexDigits
 pub mod Again
 pub mod AgainPlain
 pub mod AgainExprs
+pub mod LexFound
+pub mod LexDigits
+pub mod LexWords
+pub mod LexSigns
+pub mod LexAgain

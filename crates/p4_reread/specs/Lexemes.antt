@@ -1,6 +1,6 @@
 -- Names, numbers and signs as tokens have them.
-use Rattle.std.specs.Prelude.{◌≡◌, ℕ, ◌^◌, ◌<◌, ◌≤◌, List, [], ◌∷◌, map, Bool, true, false, ◌&&◌, Option, Some, None, Result, Ok, Err, codes}
-use Rattle.std.specs.List.{list_all}
+use Rattle.std.specs.Prelude.{◌≡◌, ℕ, ◌^◌, ◌<◌, ◌≤◌, List, [], ◌∷◌, Bool, true, false, ◌&&◌, Option, Some, None, Result, Ok, Err, codes}
+use Rattle.std.specs.List.{AllByRecursion, list_all}
 use Rattle.std.specs.Str.{bytes_eq}
 use Rattle.rp_base.specs.declared.refused.Refused.{Refused}
 use Rattle.p4_lex.specs.declared.token.Lexeme.{Lexeme}
@@ -8,6 +8,7 @@ use Rattle.p4_lex.specs.declared.token.Lexeme.TheVariants as lexeme
 use Rattle.p4_lex.specs.declared.token.Token.{Token}
 use Rattle.p4_lex.specs.Letters.{begins_name, goes_on}
 use Rattle.p4_lex.specs.Words.{reserved}
+use Rattle.p4_reread.specs.Again.{lexemes}
 
 -- a letter or `_`, then letters, digits and `_`
 abbrev pub name_shape : List ℕ → Bool
@@ -33,12 +34,7 @@ IsLexeme (lexeme.Sign s) = Unit {0}
 
 -- each is what a token can say
 abbrev pub AreLexemes : List Lexeme → Type 0
-AreLexemes [] = Unit {0}
-AreLexemes (l ∷ ls) = IsLexeme l × AreLexemes ls
-
--- what tokens say, wherever they stand
-abbrev pub lexemes : List Token → List Lexeme
-lexemes ts = map (λ t. t.lexeme) ts
+AreLexemes ls = AllByRecursion IsLexeme ls
 
 -- what the tokens that were read say, or the refusal
 abbrev pub lexemes_of : Result (List Token) Refused → Result (List Lexeme) Refused
