@@ -1,13 +1,7 @@
-//! What canonical text is read as.
 //! Canonical text read again: its tokens, and the tree that they spell.
 #![tactic(auto)]
 
 mod lexemes;
 mod trees;
 
-pub use lexemes::tokens_are_lexemes;
-//! Canonical text read again: its tokens, and the tree that they spell.
-#![tactic(auto)]
-
-mod trees;
 pub use lexemes::{canonical_tokens_are_read_again, tokens_are_lexemes};
