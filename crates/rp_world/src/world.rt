@@ -1,5 +1,5 @@
 //! The world of a run.
-ghost use Rattle.std.specs.Prelude.{◌≡◌, ◌<◌, ◌≤◌, true, false, Some, length, option_map, slice_get, IfOk, OnOk, OnErr, IsErr};
+ghost use Rattle.std.specs.Prelude.{◌≡◌, ◌<◌, ◌≤◌, ◌+◌, true, false, Some, length, option_map, slice_get, IfOk, OnOk, OnErr, IsErr};
 ghost use Rattle.proto_model.specs.EndLines.{end_lines};
 ghost use Rattle.proto_safety.specs.Frames.{Grows};
 ghost use Rattle.rp_frame.specs.Spelling.{spelling};
@@ -87,6 +87,7 @@ impl<A: App> World<A> {
         requires event { IsEvent e.now }
         requires count { self.old.world.event < 1000000000 }
         ensures ok { IfOk result (λ lines. (self.new.world, lines) ≡ stepped (A.meaning self.old.app) self.old.world e.now) }
+        ensures number { OnOk result (self.new.world.event ≡ self.old.world.event + 1) }
         ensures few { OnOk result (Grows self.old.world.frames self.new.world.frames) }
         ensures app { self.new.app ≡ self.old.app }
         ensures err { OnErr result (self.new.failed ≡ true) }
