@@ -1,0 +1,200 @@
+-- The readers of tables fit.
+use Rattle.std.proofs.Common.{◌≡◌, ℕ, zero, suc, ◌+◌, ◌≤◌, length, arith, Bool, true, false, cond, List, [], ◌∷◌, ◌++◌, Result, Ok, Err, Option, Some, None, refl, sym, ap, subst, ◌∙◌, append_assoc, append-nil, inl, inr, ◌⊎◌}
+use Rattle.p4_lex.specs.declared.token.Token.{Token}
+use Rattle.p4_lex.specs.declared.token.Sign.{Sign}
+use Rattle.p4_lex.specs.declared.token.Sign.TheVariants as sign
+use Rattle.p4_lex.specs.declared.token.Lexeme.{Lexeme}
+use Rattle.p4_lex.specs.declared.token.Lexeme.TheVariants as lexeme
+use Rattle.p4_grammar.specs.declared.mark.Properties.{Properties}
+use Rattle.p4_grammar.specs.Forms.{Lang, none, only, bind, either, taken, many, Reader, done_at, bind_at, taken_at, hand, either_at, steps, option, option_at, Spells}
+use Rattle.p4_grammar.specs.Tokens.{is, name, words, words_at, in_hand, one_of, but}
+use Rattle.p4_grammar.specs.Values.{Env}
+use Rattle.p4_grammar.specs.Trees.{keyset_place, start_of, is_const, no_properties, is_none, with_default, with_entries, with_size}
+use Rattle.p4_grammar.specs.Grammar.{keyset_, default_of, entry, entries_of, size, const_or_none, default, entries, property, properties, table}
+use Rattle.p4_grammar.specs.Reading.{default_at, entry_at, entries_at, size_at, Part, const_or_at, properties_at, table_at}
+use Rattle.p4_grammar.proofs.Languages.{Same, same, flip, same_bind, same_either, assoc, dist, factor, bind_only, ◌then◌}
+use Rattle.p4_grammar.proofs.Forms.{IsEnd, Reads, bind-reads, done-reads, either-reads, fits, fewer, shifted-reads, stuck-reads}
+use Rattle.p4_grammar.proofs.Basics.{free, is_free, tok, then-reads, words-reads, sign-reads, named-reads, Begins, begins_bind, begins_either, choose-reads, said, sign_begins, behind-reads, some_by, any-reads}
+use Rattle.p4_grammar.proofs.Expressions.{end_hand}
+use Rattle.p4_grammar.proofs.Operands.{after_sign}
+use Rattle.p4_grammar.proofs.Plain.{keys-reads, acts-reads, call-reads, size-reads, listed-reads}
+use Rattle.p4_grammar.proofs.KeysetsSame.{keyset-reads}
+use Rattle.p4_grammar.proofs.States.{keyset_goes}
+
+default_of-reads : {n : ℕ} (env : Env) (c : Option ℕ) → Reads n (default_of env c) (default_of env c) free (default_at n env c)
+unfolding default_of default_at
+default_of-reads {n = n} env c = sign-reads sign.DefaultAction λ at. words-reads (sign.Assign ∷ []) (behind-reads (call-reads env) (λ f. sign_begins sign.Semicolon (λ i e. refl)) λ f. words-reads (sign.Semicolon ∷ []) (done-reads n free (record { at = start_of c at; const_ = is_const c; call = f })))
+
+entry-reads : {n : ℕ} (env : Env) → Reads n (entry env) (entry env) free (entry_at n env)
+unfolding entry entry_at
+entry-reads {n = n} env = behind-reads (keyset-reads env) (λ k. sign_begins sign.Colon (λ i e. refl)) λ k. words-reads (sign.Colon ∷ []) (behind-reads (call-reads env) (λ f. sign_begins sign.Semicolon (λ i e. refl)) λ f. words-reads (sign.Semicolon ∷ []) (done-reads n free (record { at = keyset_place k; keyset = k; call = f })))
+
+entry_goes : (env : Env) → Begins true (but sign.CloseBrace) (entry env)
+unfolding entry
+entry_goes env = begins_bind (keyset_goes env)
+
+entries_of-reads : {n : ℕ} (env : Env) (c : Option ℕ) → Reads n (entries_of env c) (entries_of env c) free (entries_at n env c)
+unfolding entries_of entries_at
+entries_of-reads {n = n} env c = sign-reads sign.Entries λ at. words-reads (sign.Assign ∷ sign.OpenBrace ∷ []) (listed-reads sign.CloseBrace (λ i e. refl) (entry-reads env) (entry_goes env) (entry_goes env) λ es. done-reads n free (record { at = start_of c at; const_ = is_const c; entries = es }))
+
+default_begins : {b : Bool} {t : Token → Bool} (env : Env) (c : Option ℕ) → ((at e : ℕ) → t (tok at e (lexeme.Sign sign.DefaultAction)) ≡ b) → Begins b t (default_of env c)
+unfolding default_of
+default_begins env c h = sign_begins sign.DefaultAction h
+
+entries_begins : {b : Bool} {t : Token → Bool} (env : Env) (c : Option ℕ) → ((at e : ℕ) → t (tok at e (lexeme.Sign sign.Entries)) ≡ b) → Begins b t (entries_of env c)
+unfolding entries_of
+entries_begins env c h = sign_begins sign.Entries h
+
+size_begins : {b : Bool} {t : Token → Bool} → ((at e : ℕ) → t (tok at e (lexeme.Sign sign.Size)) ≡ b) → Begins b t size
+unfolding size
+size_begins h = sign_begins sign.Size h
+
+-- ---- properties: what the reader follows, where R is what follows one
+
+abbrev Parts : Type 1
+Parts = Option ℕ → Lang Properties
+
+unfoldable pub const_or : Bool → Bool → Parts → Parts → Lang Properties → Lang Properties
+const_or true true D E Q = either (bind (taken (is sign.Const)) λ at. either (D (Some at)) (E (Some at))) Q
+const_or true false D E Q = either (bind (taken (is sign.Const)) λ at. D (Some at)) Q
+const_or false true D E Q = either (bind (taken (is sign.Const)) λ at. E (Some at)) Q
+const_or false false D E Q = Q
+
+abbrev defaults : Env → Properties → (Properties → Lang Properties) → Parts
+defaults env a R c = bind (default_of env c) λ d. R (with_default a d)
+
+abbrev entriess : Env → Properties → (Properties → Lang Properties) → Parts
+entriess env a R c = bind (entries_of env c) λ e. R (with_entries a e)
+
+abbrev sizes : Properties → (Properties → Lang Properties) → Lang Properties
+sizes a R = bind size λ s. R (with_size a s)
+
+abbrev fproperty : Env → Properties → (Properties → Lang Properties) → Lang Properties
+fproperty env a R = const_or (is_none a.default) (is_none a.entries) (defaults env a R) (entriess env a R)
+    (option (is_none a.default) (defaults env a R None) (option (is_none a.entries) (entriess env a R None) (option (is_none a.size) (sizes a R) (only a))))
+
+-- ---- both ways
+
+option-bind : {A B : Type 0} (b : Bool) (L M : Lang A) (K : A → Lang B) → Same (bind (option b L M) K) (option b (bind L K) (bind M K))
+option-bind true L M K = dist
+option-bind false L M K = same
+
+same_option : {A : Type 0} (b : Bool) {L M N O : Lang A} → Same L M → Same N O → Same (option b L N) (option b M O)
+same_option true h k = same_either h k
+same_option false h k = k
+
+none-bind : {A B : Type 0} (K : A → Lang B) → Same (bind none K) none
+none-bind K = record { to = λ y w d. absurd d.4; back = λ y w d. absurd d }
+
+const-same : {A : Type 0} (K : Option ℕ → Lang A) → Same (bind const_or_none K) (either (bind (taken (is sign.Const)) λ at. K (Some at)) (K None))
+unfolding const_or_none
+const-same K = dist then same_either (assoc then same_bind same (λ at. bind_only)) bind_only
+
+-- the grammar's form, with what follows a property
+spread : Env → Properties → (Properties → Lang Properties) → Lang Properties
+spread env a R = option (is_none a.default) (either (bind (taken (is sign.Const)) λ at. defaults env a R (Some at)) (defaults env a R None))
+    (option (is_none a.entries) (either (bind (taken (is sign.Const)) λ at. entriess env a R (Some at)) (entriess env a R None))
+    (option (is_none a.size) (sizes a R) none))
+
+spread-same : (env : Env) (a : Properties) (R : Properties → Lang Properties) → Same (bind (property env a) R) (spread env a R)
+unfolding property default entries spread
+spread-same env a R =
+    option-bind (is_none a.default) _ _ R then same_option (is_none a.default) (assoc then (assoc then (same_bind same (λ c. same_bind same (λ d. bind_only)) then const-same (defaults env a R))))
+    (option-bind (is_none a.entries) _ _ R then same_option (is_none a.entries) (assoc then (assoc then (same_bind same (λ c. same_bind same (λ e. bind_only)) then const-same (entriess env a R))))
+    (option-bind (is_none a.size) _ _ R then same_option (is_none a.size) (assoc then same_bind same (λ s. bind_only)) (none-bind R)))
+
+module _ (y : Properties) (w : List Token) (D E : Parts) (S O : Lang Properties) where
+  abbrev From : Bool → Bool → Bool → Type 0
+  From nd ne ns = (either (option nd (either (bind (taken (is sign.Const)) λ at. D (Some at)) (D None)) (option ne (either (bind (taken (is sign.Const)) λ at. E (Some at)) (E None)) (option ns S none))) O) y w
+
+  abbrev To : Bool → Bool → Bool → Type 0
+  To nd ne ns = const_or nd ne D E (option nd (D None) (option ne (E None) (option ns S O))) y w
+
+  turned : (nd ne ns : Bool) → From nd ne ns → To nd ne ns
+  unfolding const_or
+  turned true true ns (inl (inl (inl (at, a, b, e, c, d)))) = inl (at, a, b, e, c, inl d)
+  turned true true ns (inl (inl (inr d))) = inr (inl d)
+  turned true true ns (inl (inr (inl (inl (at, a, b, e, c, d))))) = inl (at, a, b, e, c, inr d)
+  turned true true ns (inl (inr (inl (inr d)))) = inr (inr (inl d))
+  turned true true true (inl (inr (inr (inl d)))) = inr (inr (inr (inl d)))
+  turned true true true (inl (inr (inr (inr d)))) = absurd d
+  turned true true false (inl (inr (inr d))) = absurd d
+  turned true true true (inr d) = inr (inr (inr (inr d)))
+  turned true true false (inr d) = inr (inr (inr d))
+  turned true false ns (inl (inl (inl d))) = inl d
+  turned true false ns (inl (inl (inr d))) = inr (inl d)
+  turned true false true (inl (inr (inl d))) = inr (inr (inl d))
+  turned true false true (inl (inr (inr d))) = absurd d
+  turned true false false (inl (inr d)) = absurd d
+  turned true false true (inr d) = inr (inr (inr d))
+  turned true false false (inr d) = inr (inr d)
+  turned false true ns (inl (inl (inl d))) = inl d
+  turned false true ns (inl (inl (inr d))) = inr (inl d)
+  turned false true true (inl (inr (inl d))) = inr (inr (inl d))
+  turned false true true (inl (inr (inr d))) = absurd d
+  turned false true false (inl (inr d)) = absurd d
+  turned false true true (inr d) = inr (inr (inr d))
+  turned false true false (inr d) = inr (inr d)
+  turned false false true (inl (inl d)) = inl d
+  turned false false true (inl (inr d)) = absurd d
+  turned false false true (inr d) = inr d
+  turned false false false (inl d) = absurd d
+  turned false false false (inr d) = d
+
+  returned : (nd ne ns : Bool) → To nd ne ns → From nd ne ns
+  unfolding const_or
+  returned true true ns (inl (at, a, b, e, c, inl d)) = inl (inl (inl (at, a, b, e, c, d)))
+  returned true true ns (inl (at, a, b, e, c, inr d)) = inl (inr (inl (inl (at, a, b, e, c, d))))
+  returned true true ns (inr (inl d)) = inl (inl (inr d))
+  returned true true ns (inr (inr (inl d))) = inl (inr (inl (inr d)))
+  returned true true true (inr (inr (inr (inl d)))) = inl (inr (inr (inl d)))
+  returned true true true (inr (inr (inr (inr d)))) = inr d
+  returned true true false (inr (inr (inr d))) = inr d
+  returned true false ns (inl d) = inl (inl (inl d))
+  returned true false ns (inr (inl d)) = inl (inl (inr d))
+  returned true false true (inr (inr (inl d))) = inl (inr (inl d))
+  returned true false true (inr (inr (inr d))) = inr d
+  returned true false false (inr (inr d)) = inr d
+  returned false true ns (inl d) = inl (inl (inl d))
+  returned false true ns (inr (inl d)) = inl (inl (inr d))
+  returned false true true (inr (inr (inl d))) = inl (inr (inl d))
+  returned false true true (inr (inr (inr d))) = inr d
+  returned false true false (inr (inr d)) = inr d
+  returned false false true (inl d) = inl (inl d)
+  returned false false true (inr d) = inr d
+  returned false false false d = inr d
+
+turn-same : (D E : Parts) (S O : Lang Properties) (nd ne ns : Bool) → Same (either (option nd (either (bind (taken (is sign.Const)) λ at. D (Some at)) (D None)) (option ne (either (bind (taken (is sign.Const)) λ at. E (Some at)) (E None)) (option ns S none))) O) (const_or nd ne D E (option nd (D None) (option ne (E None) (option ns S O))))
+turn-same D E S O nd ne ns = record { to = λ y w. turned y w D E S O nd ne ns; back = λ y w. returned y w D E S O nd ne ns }
+
+property-same : (env : Env) (a : Properties) (R : Properties → Lang Properties) → Same (either (bind (property env a) R) (only a)) (fproperty env a R)
+unfolding spread
+property-same env a R = same_either (spread-same env a R) same then turn-same (defaults env a R) (entriess env a R) (sizes a R) (only a) (is_none a.default) (is_none a.entries) (is_none a.size)
+
+-- ---- the reader
+
+-- what may go on behind some properties
+abbrev pub EP : Token → Bool
+EP a = one_of (sign.Const ∷ sign.DefaultAction ∷ sign.Entries ∷ sign.Size ∷ []) a
+
+ep_const : (a b c d : Bool) → cond a true (cond b true (cond c true (cond d true false))) ≡ false → a ≡ false
+ep_const true b c d e = absurd cc
+ep_const false b c d e = refl
+
+ep_default : (a b c d : Bool) → cond a true (cond b true (cond c true (cond d true false))) ≡ false → b ≡ false
+ep_default true b c d e = absurd cc
+ep_default false true c d e = absurd cc
+ep_default false false c d e = refl
+
+ep_entries : (a b c d : Bool) → cond a true (cond b true (cond c true (cond d true false))) ≡ false → c ≡ false
+ep_entries true b c d e = absurd cc
+ep_entries false true c d e = absurd cc
+ep_entries false false true d e = absurd cc
+ep_entries false false false d e = refl
+
+ep_size : (a b c d : Bool) → cond a true (cond b true (cond c true (cond d true false))) ≡ false → d ≡ false
+ep_size true b c d e = absurd cc
+ep_size false true c d e = absurd cc
+ep_size false false true d e = absurd cc
+ep_size false false false true e = absurd cc
+ep_size false false false false e = refl
