@@ -198,3 +198,126 @@ ep_size false true c d e = absurd cc
 ep_size false false true d e = absurd cc
 ep_size false false false true e = absurd cc
 ep_size false false false false e = refl
+
+-- no token of the test stands in front
+abbrev Away : (Token → Bool) → Lang Properties → Type 0
+Away t L = (y : Properties) (u m : List Token) → L y u → IsEnd EP m → hand t (u ++ m) ≡ false
+
+away_begins : (t : Token → Bool) (L : Lang Properties) → Begins false t L → Away t L
+away_begins t L h y u m d end = h.at y u m d
+
+away_only : (t : Token → Bool) (a : Properties) → ((b : Token) → EP b ≡ false → t b ≡ false) → Away t (only a)
+away_only t a h y u m d end = subst (λ (q : List Token). hand t (q ++ m) ≡ false) (sym d.1) (end_hand EP t h m end)
+
+away_option : (t : Token → Bool) (b : Bool) (L M : Lang Properties) → Away t L → Away t M → Away t (option b L M)
+away_option t true L M h k y u m (inl d) end = h y u m d end
+away_option t true L M h k y u m (inr d) end = k y u m d end
+away_option t false L M h k y u m d end = k y u m d end
+
+opt-reads : {N : ℕ} {D U D2 U2 : Lang Properties} {p q : Reader Properties} (b : Bool) (t : Token → Bool) → Reads N D U (λ r. EP) p → Begins true t D → Reads N D2 U2 (λ r. EP) q → Away t D2 → Reads N (option b D D2) (option b U U2) (λ r. EP) (option_at b t p q)
+opt-reads {N = N} {D = D} {U = U} {D2 = D2} {U2 = U2} {p = p} {q = q} true t h k i away = either-reads N t D U (λ r. EP) p D2 U2 q h i k.at away
+opt-reads false t h k i away = i
+
+module _ (n c : ℕ) (le : suc c ≤ n) (env : Env) (RD RU : Properties → Lang Properties) (ih : (r : Properties) → Reads c (RD r) (RU r) (λ r. EP) (properties_at n env c r)) (a : Properties) where
+  default_long : (o : Option ℕ) (x : _) (u : List Token) → default_of env o x u → suc c ≤ length u + c
+  default_long o x u d = let one : 1 ≤ length u = some_by (in_hand sign.DefaultAction) u ((default_begins {t = in_hand sign.DefaultAction} env o (λ i e. refl)).at x u [] d) in omega arith
+
+  entries_long : (o : Option ℕ) (x : _) (u : List Token) → entries_of env o x u → suc c ≤ length u + c
+  entries_long o x u d = let one : 1 ≤ length u = some_by (in_hand sign.Entries) u ((entries_begins {t = in_hand sign.Entries} env o (λ i e. refl)).at x u [] d) in omega arith
+
+  size_long : (x : _) (u : List Token) → size x u → suc c ≤ length u + c
+  size_long x u d = let one : 1 ≤ length u = some_by (in_hand sign.Size) u ((size_begins {t = in_hand sign.Size} (λ i e. refl)).at x u [] d) in omega arith
+
+  part_d : Option ℕ → Reader Properties
+  part_d o = bind_at (default_at n env o) λ d. properties_at n env c (with_default a d)
+
+  part_e : Option ℕ → Reader Properties
+  part_e o = bind_at (entries_at n env o) λ e. properties_at n env c (with_entries a e)
+
+  part_s : Reader Properties
+  part_s = bind_at size_at λ s. properties_at n env c (with_size a s)
+
+  d-reads : (o : Option ℕ) → Reads (suc c) (defaults env a RD o) (defaults env a RU o) (λ r. EP) (part_d o)
+  unfolding part_d
+  d-reads o = shifted-reads (suc c) c (default_of env o) (default_of env o) free (default_at n env o) (λ d. RD (with_default a d)) (λ d. RU (with_default a d)) (λ r. EP) (λ d. properties_at n env c (with_default a d)) (default_of-reads_ (suc c) le o) (λ d. ih (with_default a d)) (default_long o) (λ x y v m d end. is_free (v ++ m)) where
+    default_of-reads_ : (j : ℕ) → j ≤ n → (o : Option ℕ) → Reads j (default_of env o) (default_of env o) free (default_at n env o)
+    default_of-reads_ j l o = fewer j n (default_of env o) (default_of env o) free (default_at n env o) l (default_of-reads env o)
+
+  e-reads : (o : Option ℕ) → Reads (suc c) (entriess env a RD o) (entriess env a RU o) (λ r. EP) (part_e o)
+  unfolding part_e
+  e-reads o = shifted-reads (suc c) c (entries_of env o) (entries_of env o) free (entries_at n env o) (λ d. RD (with_entries a d)) (λ d. RU (with_entries a d)) (λ r. EP) (λ d. properties_at n env c (with_entries a d)) (fewer (suc c) n (entries_of env o) (entries_of env o) free (entries_at n env o) le (entries_of-reads env o)) (λ d. ih (with_entries a d)) (entries_long o) (λ x y v m d end. is_free (v ++ m))
+
+  s-reads : Reads (suc c) (sizes a RD) (sizes a RU) (λ r. EP) part_s
+  unfolding part_s
+  s-reads = shifted-reads (suc c) c size size free size_at (λ d. RD (with_size a d)) (λ d. RU (with_size a d)) (λ r. EP) (λ d. properties_at n env c (with_size a d)) size-reads (λ d. ih (with_size a d)) size_long (λ x y v m d end. is_free (v ++ m))
+
+  d_low : (o : Option ℕ) → Reads c (defaults env a RD o) (defaults env a RU o) (λ r. EP) (part_d o)
+  d_low o = fewer c (suc c) _ _ (λ r. EP) _ (omega arith) (d-reads o)
+
+  e_low : (o : Option ℕ) → Reads c (entriess env a RD o) (entriess env a RU o) (λ r. EP) (part_e o)
+  e_low o = fewer c (suc c) _ _ (λ r. EP) _ (omega arith) (e-reads o)
+
+  size_part : (R : Properties → Lang Properties) → Lang Properties
+  size_part R = option (is_none a.size) (sizes a R) (only a)
+
+  entries_part : (R : Properties → Lang Properties) → Lang Properties
+  entries_part R = option (is_none a.entries) (entriess env a R None) (size_part R)
+
+  plain_part : (R : Properties → Lang Properties) → Lang Properties
+  plain_part R = option (is_none a.default) (defaults env a R None) (entries_part R)
+
+  size_away : (t : Token → Bool) → ((at e : ℕ) → t (tok at e (lexeme.Sign sign.Size)) ≡ false) → ((b : Token) → EP b ≡ false → t b ≡ false) → Away t (size_part RD)
+  unfolding size_part
+  size_away t h k = away_option t (is_none a.size) (sizes a RD) (only a) (away_begins t (sizes a RD) (begins_bind (size_begins h))) (away_only t a k)
+
+  entries_away : (t : Token → Bool) → ((at e : ℕ) → t (tok at e (lexeme.Sign sign.Size)) ≡ false) → ((at e : ℕ) → t (tok at e (lexeme.Sign sign.Entries)) ≡ false) → ((b : Token) → EP b ≡ false → t b ≡ false) → Away t (entries_part RD)
+  unfolding entries_part
+  entries_away t h i k = away_option t (is_none a.entries) (entriess env a RD None) (size_part RD) (away_begins t (entriess env a RD None) (begins_bind (entries_begins env None i))) (size_away t h k)
+
+  const_away : Away (in_hand sign.Const) (plain_part RD)
+  unfolding plain_part
+  const_away = away_option (in_hand sign.Const) (is_none a.default) (defaults env a RD None) (entries_part RD) (away_begins (in_hand sign.Const) (defaults env a RD None) (begins_bind (default_begins env None (λ i e. refl)))) (entries_away (in_hand sign.Const) (λ i e. refl) (λ i e. refl) (λ b e. ep_const (in_hand sign.Const b) (in_hand sign.DefaultAction b) (in_hand sign.Entries b) (in_hand sign.Size b) e))
+
+  plain_at : Reader Properties
+  plain_at = option_at (is_none a.default) (in_hand sign.DefaultAction) (part_d None) (option_at (is_none a.entries) (in_hand sign.Entries) (part_e None) (option_at (is_none a.size) (in_hand sign.Size) part_s (done_at a)))
+
+  plain_part-reads : Reads (suc c) (plain_part RD) (plain_part RU) (λ r. EP) plain_at
+  unfolding plain_part entries_part size_part plain_at
+  plain_part-reads = opt-reads (is_none a.default) (in_hand sign.DefaultAction) (d-reads None) (begins_bind (default_begins env None (λ i e. refl)))
+      (opt-reads (is_none a.entries) (in_hand sign.Entries) (e-reads None) (begins_bind (entries_begins env None (λ i e. refl)))
+      (opt-reads (is_none a.size) (in_hand sign.Size) s-reads (begins_bind (size_begins (λ i e. refl))) (done-reads (suc c) (λ r. EP) a)
+      (away_only (in_hand sign.Size) a (λ b e. ep_size (in_hand sign.Const b) (in_hand sign.DefaultAction b) (in_hand sign.Entries b) (in_hand sign.Size b) e)))
+      (size_away (in_hand sign.Entries) (λ i e. refl) (λ b e. ep_entries (in_hand sign.Const b) (in_hand sign.DefaultAction b) (in_hand sign.Entries b) (in_hand sign.Size b) e)))
+      (entries_away (in_hand sign.DefaultAction) (λ i e. refl) (λ i e. refl) (λ b e. ep_default (in_hand sign.Const b) (in_hand sign.DefaultAction b) (in_hand sign.Entries b) (in_hand sign.Size b) e))
+
+  const_or-reads : (nd ne : Bool) → Reads (suc c) (const_or nd ne (defaults env a RD) (entriess env a RD) (plain_part RD)) (const_or nd ne (defaults env a RU) (entriess env a RU) (plain_part RU)) (λ r. EP) (const_or_at nd ne part_d part_e plain_at)
+  unfolding const_or const_or_at
+  const_or-reads true true = either-reads (suc c) (in_hand sign.Const) _ _ (λ r. EP) _ (plain_part RD) (plain_part RU) plain_at
+      (after_sign sign.Const λ at. choose-reads (in_hand sign.DefaultAction) (d_low (Some at)) (e_low (Some at)) (begins_bind (default_begins env (Some at) (λ i e. refl))) (begins_bind (entries_begins env (Some at) (λ i e. refl))))
+      plain_part-reads (sign_begins {t = in_hand sign.Const} sign.Const (λ i e. refl)).at const_away
+  const_or-reads true false = either-reads (suc c) (in_hand sign.Const) _ _ (λ r. EP) _ (plain_part RD) (plain_part RU) plain_at
+      (after_sign sign.Const λ at. d_low (Some at)) plain_part-reads (sign_begins {t = in_hand sign.Const} sign.Const (λ i e. refl)).at const_away
+  const_or-reads false true = either-reads (suc c) (in_hand sign.Const) _ _ (λ r. EP) _ (plain_part RD) (plain_part RU) plain_at
+      (after_sign sign.Const λ at. e_low (Some at)) plain_part-reads (sign_begins {t = in_hand sign.Const} sign.Const (λ i e. refl)).at const_away
+  const_or-reads false false = plain_part-reads
+
+  pub fproperty-reads : Reads (suc c) (fproperty env a RD) (fproperty env a RU) (λ r. EP) (properties_at n env (suc c) a)
+  unfolding properties_at plain_part entries_part size_part plain_at part_d part_e part_s
+  fproperty-reads = const_or-reads (is_none a.default) (is_none a.entries)
+
+property_step : (n c k : ℕ) (env : Env) (a : Properties) → suc c ≤ n → ((r : Properties) → Reads c (steps k (property env) r) (steps (suc c) (property env) r) (λ r. EP) (properties_at n env c r)) → Reads (suc c) (steps (suc k) (property env) a) (steps (suc (suc c)) (property env) a) (λ r. EP) (properties_at n env (suc c) a)
+property_step n c k env a le ih = said (fproperty-reads n c le env (λ r. steps k (property env) r) (λ r. steps (suc c) (property env) r) ih a) (property-same env a (λ r. steps k (property env) r)) (property-same env a (λ r. steps (suc c) (property env) r))
+
+bounded-reads : (n c k : ℕ) (env : Env) (a : Properties) → c ≤ n → Reads c (steps k (property env) a) (steps (suc c) (property env) a) (λ r. EP) (properties_at n env c a)
+unfolding properties_at
+bounded-reads n zero k env a le = stuck-reads (steps k (property env) a) (steps 1 (property env) a) (λ r. EP) a [] (inr (refl, refl))
+bounded-reads n (suc c) zero env a le = fits (suc c) (steps 1 (property env) a) (steps (suc (suc c)) (property env) a) none (steps (suc (suc c)) (property env) a) (λ r. EP) (λ r. EP) (properties_at n env (suc c) a) (property_step n c 0 env a le (λ r. bounded-reads n c 0 env r (omega arith))) (λ x u d. absurd d) (λ x u d. d) (λ x m end. end)
+bounded-reads n (suc c) (suc k) env a le = property_step n c k env a le (λ r. bounded-reads n c k env r (omega arith))
+
+pub properties-reads : {n : ℕ} (env : Env) → Reads n (properties env) (properties env) (λ r. EP) (properties_at n env n no_properties)
+unfolding properties
+properties-reads {n = n} env = any-reads (suc n) (λ k. bounded-reads n n k env no_properties (omega arith))
+
+pub table-reads : {n : ℕ} (env : Env) → Reads n (table env) (table env) free (table_at n env)
+unfolding table table_at
+table-reads {n = n} env = sign-reads sign.Table λ at. named-reads λ x. words-reads (sign.OpenBrace ∷ []) (then-reads (keys-reads env) λ ks. then-reads acts-reads λ xs. behind-reads (properties-reads env) (λ a. sign_begins sign.CloseBrace (λ i e. refl)) λ a. words-reads (sign.CloseBrace ∷ []) (done-reads n free (record { at = at; name = x; keys = ks; acts = xs; default = a.default; entries = a.entries; size = a.size })))
