@@ -19,3 +19,4 @@ pub mod KeysetsSame
 pub mod States
 pub mod Steps
 pub mod Tables
+pub mod Programs
