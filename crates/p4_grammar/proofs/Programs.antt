@@ -1,22 +1,21 @@
 -- The readers of controls and of programs fit.
-use Rattle.std.proofs.Common.{◌≡◌, ℕ, suc, ◌<◌, length, arith, Bool, true, false, cond, List, [], ◌∷◌, ◌++◌, Result, Ok, Err, Option, Some, None, refl}
+use Rattle.std.proofs.Common.{◌≡◌, ℕ, suc, ◌<◌, length, arith, Bool, true, List, [], ◌∷◌, Result, Ok, Err, refl, sym, ◌∙◌}
 use Rattle.p4_lex.specs.declared.token.Token.{Token}
-use Rattle.p4_lex.specs.declared.token.Sign.{Sign}
 use Rattle.p4_lex.specs.declared.token.Sign.TheVariants as sign
 use Rattle.p4_lex.specs.declared.token.Lexeme.TheVariants as lexeme
 use Rattle.p4_ast.specs.declared.control.P4Local.TheVariants as local
 use Rattle.p4_ast.specs.declared.program.P4Program.{P4Program}
-use Rattle.p4_grammar.specs.Forms.{Lang, only, bind, either, taken, many, Reader, done_at, bind_at, Spells, IsFault, all_at}
-use Rattle.p4_grammar.specs.Tokens.{is, name, words, words_at, in_hand, but}
+use Rattle.p4_grammar.specs.Forms.{only, bind, done_at, bind_at, IsFault}
+use Rattle.p4_grammar.specs.Tokens.{in_hand, but}
 use Rattle.p4_grammar.specs.Values.{Env}
-use Rattle.p4_grammar.specs.Trees.{Declared, declared_more, program_of}
-use Rattle.p4_grammar.specs.GrammarStatements.{var, block}
-use Rattle.p4_grammar.specs.Grammar.{declaration_, declarations, table, flow_cell, flow_array, action, local_, ingress, deparser, package_, program}
+use Rattle.p4_grammar.specs.Trees.{declared_more, program_of}
+use Rattle.p4_grammar.specs.GrammarStatements.{var}
+use Rattle.p4_grammar.specs.Grammar.{declaration_, declarations, table, flow_cell, flow_array, action, local_, ingress, program}
 use Rattle.p4_grammar.specs.Reading.{declaration_at, begins_declaration, declarations_at, action_at, local_at, ingress_at, program_at, programs_of}
 use Rattle.p4_grammar.proofs.Forms.{Reads, done-reads, whole_sound, whole_complete, whole_fault}
 use Rattle.p4_grammar.proofs.Basics.{free, tok, then-reads, words-reads, sign-reads, named-reads, Begins, begins_bind, begins_either, choose-reads, sign_begins, behind-reads}
 use Rattle.p4_grammar.proofs.Expressions.{type_begins}
-use Rattle.p4_grammar.proofs.Plain.{declaration-reads, declaration_begins, const-reads, const_begins, param-reads, last_param-reads, flow_cell-reads, flow_array-reads, typed_list-reads, var-reads, var-is, listed-reads, deparser-reads, package-reads}
+use Rattle.p4_grammar.proofs.Plain.{declaration-reads, declaration_begins, const-reads, const_begins, param-reads, last_param-reads, flow_cell-reads, flow_array-reads, typed_list-reads, var-reads, listed-reads, deparser-reads, package-reads}
 use Rattle.p4_grammar.proofs.Statements.{block-reads}
 use Rattle.p4_grammar.proofs.States.{parser-reads, parser_begins}
 use Rattle.p4_grammar.proofs.Steps.{steps-reads}
@@ -71,9 +70,6 @@ ingress-reads {n = n} env = sign-reads sign.Control λ at. named-reads λ x. wor
 
 -- ---- programs
 
-one_declaration : (s : Declared) → Lang Declared
-one_declaration s = bind (declaration_ s.0) λ d. only (declared_more s d)
-
 declarations-reads : {n : ℕ} → Reads n declarations declarations (λ s. begins_declaration) (declarations_at n)
 unfolding declarations declarations_at
 declarations-reads {n = n} = steps-reads n begins_declaration (λ s. bind (declaration_ s.0) λ d. only (declared_more s d)) (λ s. bind_at (declaration_at n s.0) λ d. done_at (declared_more s d))
@@ -89,14 +85,23 @@ program-reads n = behind-reads declarations-reads (λ s. begins_bind (parser_beg
 longer : (w : List Token) → length w < suc (length w)
 longer w = omega arith
 
-pub program_sound : (w : List Token) (x : P4Program) → programs_of w ≡ Ok x → Spells (λ k. program) x w
+pub program_sound : (w : List Token) (x : P4Program) → programs_of w ≡ Ok x → program x w
 unfolding programs_of
-program_sound w x e = whole_sound (λ k. program) free (program_at (suc (length w))) w (suc (length w)) (longer w) (λ k. program-reads (suc (length w))) x e
+program_sound w x e = whole_sound program free (program_at (suc (length w))) w (suc (length w)) (longer w) (program-reads (suc (length w))) x e
 
-pub program_complete : (w : List Token) (x : P4Program) → Spells (λ k. program) x w → programs_of w ≡ Ok x
+pub program_complete : (w : List Token) (x : P4Program) → program x w → programs_of w ≡ Ok x
 unfolding programs_of
-program_complete w x d = whole_complete (λ k. program) free (program_at (suc (length w))) w (suc (length w)) (longer w) (λ k. program-reads (suc (length w))) x d
+program_complete w x d = whole_complete program free (program_at (suc (length w))) w (suc (length w)) (longer w) (program-reads (suc (length w))) x d
 
-pub program_fault : (w r : List Token) → programs_of w ≡ Err r → IsFault (λ k. program) w r
+pub program_fault : (w r : List Token) → programs_of w ≡ Err r → IsFault program w r
 unfolding programs_of
-program_fault w r e = whole_fault (λ k. program) free (program_at (suc (length w))) w (suc (length w)) (longer w) (λ k. program-reads (suc (length w))) r e
+program_fault w r e = whole_fault program free (program_at (suc (length w))) w (suc (length w)) (longer w) (program-reads (suc (length w))) r e
+
+abbrev ok_program : P4Program → Result P4Program (List Token)
+ok_program x = Ok x
+
+same_program : (x y : P4Program) → ok_program x ≡ ok_program y → x ≡ y
+same_program x y e = cc
+
+pub program_one : (w : List Token) (x y : P4Program) → program x w → program y w → x ≡ y
+program_one w x y d e = same_program x y (sym (program_complete w x d) ∙ program_complete w y e)

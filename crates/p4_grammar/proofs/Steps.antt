@@ -1,7 +1,7 @@
 -- Loops that change a state.
-use Rattle.std.proofs.Common.{◌≡◌, ℕ, zero, suc, ◌+◌, ◌≤◌, length, arith, Bool, true, false, cond, List, [], ◌∷◌, ◌++◌, Result, Ok, Err, refl, sym, ap, subst, ◌∙◌, append_assoc, append-nil, inl, inr, ◌⊎◌}
+use Rattle.std.proofs.Common.{◌≡◌, ℕ, zero, suc, ◌+◌, ◌≤◌, length, arith, Bool, true, false, List, [], ◌∷◌, ◌++◌, refl, sym, subst, inr}
 use Rattle.p4_lex.specs.declared.token.Token.{Token}
-use Rattle.p4_grammar.specs.Forms.{Lang, none, only, bind, either, Reader, done_at, bind_at, hand, either_at, steps, steps_at, Spells}
+use Rattle.p4_grammar.specs.Forms.{Lang, none, only, bind, Reader, done_at, bind_at, hand, steps, steps_at, Spells}
 use Rattle.p4_grammar.proofs.Forms.{IsEnd, Reads, done-reads, either-reads, fits, fewer, shifted-reads, stuck-reads}
 use Rattle.p4_grammar.proofs.Basics.{free, is_free, Begins, begins_bind, some_by, any-reads}
 

@@ -1,20 +1,18 @@
 -- The readers of tables fit.
-use Rattle.std.proofs.Common.{◌≡◌, ℕ, zero, suc, ◌+◌, ◌≤◌, length, arith, Bool, true, false, cond, List, [], ◌∷◌, ◌++◌, Result, Ok, Err, Option, Some, None, refl, sym, ap, subst, ◌∙◌, append_assoc, append-nil, inl, inr, ◌⊎◌}
+use Rattle.std.proofs.Common.{◌≡◌, ℕ, zero, suc, ◌+◌, ◌≤◌, length, arith, Bool, true, false, cond, List, [], ◌∷◌, ◌++◌, Option, Some, None, refl, sym, subst, inl, inr}
 use Rattle.p4_lex.specs.declared.token.Token.{Token}
-use Rattle.p4_lex.specs.declared.token.Sign.{Sign}
 use Rattle.p4_lex.specs.declared.token.Sign.TheVariants as sign
-use Rattle.p4_lex.specs.declared.token.Lexeme.{Lexeme}
 use Rattle.p4_lex.specs.declared.token.Lexeme.TheVariants as lexeme
 use Rattle.p4_grammar.specs.declared.mark.Properties.{Properties}
-use Rattle.p4_grammar.specs.Forms.{Lang, none, only, bind, either, taken, many, Reader, done_at, bind_at, taken_at, hand, either_at, steps, option, option_at, Spells}
-use Rattle.p4_grammar.specs.Tokens.{is, name, words, words_at, in_hand, one_of, but}
+use Rattle.p4_grammar.specs.Forms.{Lang, none, only, bind, either, taken, Reader, done_at, bind_at, hand, steps, option, option_at}
+use Rattle.p4_grammar.specs.Tokens.{is, in_hand, one_of, but}
 use Rattle.p4_grammar.specs.Values.{Env}
 use Rattle.p4_grammar.specs.Trees.{keyset_place, start_of, is_const, no_properties, is_none, with_default, with_entries, with_size}
-use Rattle.p4_grammar.specs.Grammar.{keyset_, default_of, entry, entries_of, size, const_or_none, default, entries, property, properties, table}
-use Rattle.p4_grammar.specs.Reading.{default_at, entry_at, entries_at, size_at, Part, const_or_at, properties_at, table_at}
-use Rattle.p4_grammar.proofs.Languages.{Same, same, flip, same_bind, same_either, assoc, dist, factor, bind_only, ◌then◌}
-use Rattle.p4_grammar.proofs.Forms.{IsEnd, Reads, bind-reads, done-reads, either-reads, fits, fewer, shifted-reads, stuck-reads}
-use Rattle.p4_grammar.proofs.Basics.{free, is_free, tok, then-reads, words-reads, sign-reads, named-reads, Begins, begins_bind, begins_either, choose-reads, said, sign_begins, behind-reads, some_by, any-reads}
+use Rattle.p4_grammar.specs.Grammar.{default_of, entry, entries_of, size, const_or_none, default, entries, property, properties, table}
+use Rattle.p4_grammar.specs.Reading.{default_at, entry_at, entries_at, size_at, const_or_at, properties_at, table_at}
+use Rattle.p4_grammar.proofs.Languages.{Same, same, same_bind, same_either, assoc, dist, bind_only, ◌then◌}
+use Rattle.p4_grammar.proofs.Forms.{IsEnd, Reads, done-reads, either-reads, fits, fewer, shifted-reads, stuck-reads}
+use Rattle.p4_grammar.proofs.Basics.{free, is_free, tok, then-reads, words-reads, sign-reads, named-reads, Begins, begins_bind, choose-reads, said, sign_begins, behind-reads, some_by, any-reads}
 use Rattle.p4_grammar.proofs.Expressions.{end_hand}
 use Rattle.p4_grammar.proofs.Operands.{after_sign}
 use Rattle.p4_grammar.proofs.Plain.{keys-reads, acts-reads, call-reads, size-reads, listed-reads}
