@@ -1,22 +1,19 @@
 -- A value with the mark of a special spelling is spelled so.
-use Rattle.std.proofs.Common.{◌≡◌, ℕ, zero, suc, Bool, true, false, cond, List, [], ◌∷◌, ◌++◌, Result, Ok, Err, Option, Some, None, refl, sym, ap, subst, ◌∙◌, append_assoc, append-nil, inl, inr, ◌⊎◌}
+use Rattle.std.proofs.Common.{◌≡◌, ℕ, zero, suc, Bool, true, false, cond, List, [], ◌∷◌, ◌++◌, Result, refl, sym, ap, subst, ◌∙◌, append-nil, inl, inr, ◌⊎◌}
 use Rattle.std.specs.Prelude.{codes}
 use Rattle.std.specs.Str.{bytes_eq}
 use Rattle.p4_lex.specs.declared.token.Token.{Token}
 use Rattle.p4_lex.specs.declared.token.Sign.TheVariants as sign
 use Rattle.p4_ast.specs.declared.name.P4Name.{P4Name}
 use Rattle.p4_ast.specs.declared.declaration.P4Type.{P4Type}
-use Rattle.p4_ast.specs.declared.expression.P4Expr.{P4Expr}
 use Rattle.p4_ast.specs.declared.expression.P4BinaryOp.TheVariants as binary_op
 use Rattle.p4_grammar.specs.declared.mark.Mark.{Mark}
 use Rattle.p4_grammar.specs.declared.mark.Mark.TheVariants as mark
 use Rattle.p4_grammar.specs.declared.mark.Spelled.{Spelled}
-use Rattle.p4_grammar.specs.Forms.{Lang, none, only, bind, either, taken, many, chain}
-use Rattle.p4_grammar.specs.Tokens.{is, name, name_of, number, the_name, words, called}
-use Rattle.p4_grammar.specs.Values.{Env, has, later, of_cast, of_path, of_parens, path_value, valid_value, number_value, true_value, false_value, parens_value, slice_value, cast_value, unary_value, unary_op, binary, chained, again, this, sum_op, chain_op, compare_op, choice_value}
-use Rattle.p4_grammar.specs.Trees.{alone}
-use Rattle.p4_grammar.specs.GrammarExpressions.{path, names, slice, sliced, called_path, primary, cast_front, unary_of, sum_of, chain_of, compare_of, and_of, or_of, choice_of, unary, expr_}
-use Rattle.p4_grammar.proofs.Languages.{Same}
+use Rattle.p4_grammar.specs.Forms.{Lang, only, bind, either, taken, chain}
+use Rattle.p4_grammar.specs.Tokens.{is, name, the_name, words}
+use Rattle.p4_grammar.specs.Values.{Env, has, later, of_cast, of_path, of_parens, path_value, valid_value, number_value, true_value, false_value, parens_value, slice_value, cast_value, unary_value, binary, chained, again, this, sum_op, compare_op, choice_value}
+use Rattle.p4_grammar.specs.GrammarExpressions.{path, names, slice, sliced, primary, cast_front, unary_of, sum_of, chain_of, compare_of, and_of, or_of, choice_of, unary, expr_}
 use Rattle.p4_grammar.proofs.Called.{name_back}
 
 -- name "." "read"

@@ -1,7 +1,6 @@
 -- The reader of conditions fits.
-use Rattle.std.proofs.Common.{◌≡◌, ℕ, zero, suc, Bool, true, false, cond, List, [], ◌∷◌, ◌++◌, Result, Ok, Err, Option, Some, None, refl, sym, ap, subst, ◌∙◌, append_assoc, append-nil, inl, inr, ◌⊎◌}
+use Rattle.std.proofs.Common.{◌≡◌, ℕ, zero, suc, Bool, true, false, List, [], ◌∷◌, ◌++◌, Result, Ok, Option, Some, None, refl, sym, ap, subst, ◌∙◌, append_assoc, append-nil, inl, inr, ◌⊎◌}
 use Rattle.p4_lex.specs.declared.token.Token.{Token}
-use Rattle.p4_lex.specs.declared.token.Sign.{Sign}
 use Rattle.p4_lex.specs.declared.token.Sign.TheVariants as sign
 use Rattle.p4_lex.specs.declared.token.Lexeme.{Lexeme}
 use Rattle.p4_lex.specs.declared.token.Lexeme.TheVariants as lexeme
@@ -11,18 +10,18 @@ use Rattle.p4_ast.specs.declared.expression.P4UnaryOp.TheVariants as op
 use Rattle.p4_ast.specs.declared.statement.P4Cond.{P4Cond}
 use Rattle.p4_ast.specs.declared.statement.P4Cond.TheVariants as condition
 use Rattle.p4_grammar.specs.declared.mark.Spelled.{Spelled}
-use Rattle.p4_grammar.specs.Forms.{Lang, none, only, bind, either, taken, many, Reader, done_at, bind_at, taken_at, hand, either_at, is_given, Spells}
-use Rattle.p4_grammar.specs.Tokens.{test, is, sign_of, code, name, the_name, words, words_at, in_hand, is_name, called}
-use Rattle.p4_grammar.specs.Values.{Env, is_bare, unary_value, unary_lexeme, unary_op}
-use Rattle.p4_grammar.specs.GrammarExpressions.{path, names, unary_of, unary, expr_, expr}
+use Rattle.p4_grammar.specs.Forms.{Lang, only, bind, either, taken, Reader, done_at, bind_at, hand, is_given}
+use Rattle.p4_grammar.specs.Tokens.{is, sign_of, name, words, in_hand, is_name}
+use Rattle.p4_grammar.specs.Values.{Env, unary_value, unary_lexeme, unary_op}
+use Rattle.p4_grammar.specs.GrammarExpressions.{names, unary_of, unary, expr_, expr}
 use Rattle.p4_grammar.specs.GrammarStatements.{outcome_, table_cond, not_table_cond, cond_}
 use Rattle.p4_grammar.specs.ReadingExpressions.{unary_at, expr_at, behind_at, names_at, named_at}
-use Rattle.p4_grammar.specs.ReadingStatements.{outcome_at, applied_at, negated_value, cond_rest_at, is_some, place_or, cond_named_at, cond_at}
-use Rattle.p4_grammar.proofs.Languages.{Same, same, flip, same_bind, same_either, assoc, dist, factor, bind_only, swap, turn, same_words, words_bind, factor_words, ◌then◌}
+use Rattle.p4_grammar.specs.ReadingStatements.{applied_at, negated_value, cond_rest_at, is_some, place_or, cond_named_at, cond_at}
+use Rattle.p4_grammar.proofs.Languages.{Same}
 use Rattle.p4_grammar.proofs.Forms.{IsEnd, Reads, bind-reads, done-reads, fits, either-reads}
-use Rattle.p4_grammar.proofs.Basics.{free, is_free, tok, then-reads, words-reads, sign-reads, named-reads, Begins, begins_taken, begins_bind, begins_either, choose-reads, said, by_sign, lexeme_is, sign_begins, name_begins}
-use Rattle.p4_grammar.proofs.Facts.{V, goes_on, is_read, by_later, all_ends, test_true}
-use Rattle.p4_grammar.proofs.Expressions.{names-reads, hand_end, end_end, apart_only, plain, open_, signed, named, name_led, funary}
+use Rattle.p4_grammar.proofs.Basics.{tok, then-reads, words-reads, sign-reads, named-reads, Begins, begins_taken, begins_bind, begins_either, choose-reads, lexeme_is, sign_begins, name_begins}
+use Rattle.p4_grammar.proofs.Facts.{V, by_later, all_ends}
+use Rattle.p4_grammar.proofs.Expressions.{names-reads, end_end, apart_only, signed, named, name_led, funary}
 use Rattle.p4_grammar.proofs.Operands.{named-reads_, named_apart, plain_begins, open_begins}
 use Rattle.p4_grammar.proofs.Levels.{apart_both}
 use Rattle.p4_grammar.proofs.Factored.{down, up, expr-reads}
@@ -250,11 +249,13 @@ expr_down env e y w d is = by (split_expr env e w d) where
         | inl d ↦ inl (n.at, n.front, n.rest ++ v, whole, n.sign_there, inl (name_in env (Some n.at) n.inner y n.rest v (n.rest ++ v) refl d rest))
         | inr h ↦ inl (n.at, n.front, n.rest ++ v, whole, n.sign_there, inr (n.inner, n.rest, v, refl, ((k, n.inner_there), h), rest))
       ]
+
   plain_one : (k : ℕ) (x : Spelled) (u v : List Token) → w ≡ u ++ v → unary (suc k) env x u → behind_of k env x e v → ((m : List Token) → hand (in_hand sign.Not) (u ++ m) ≡ false) → others env y w
   plain_one k x u v eq ux b away = elim (unary_name_led (suc k) env x u ux) [
     | inl d ↦ inr (inl (name_in env None x y u v w eq d (crest_in env None x e y v (k, b) is)))
     | inr h ↦ inr (inr (e, w, [], sym (append-nil w), ((d, hand_more (in_hand sign.Not) u v w eq away), hand_more is_name u v w eq h), (is, refl)))
   ]
+
   by : (k : ℕ) × bind (unary (suc k) env) (λ x. behind_of k env x) e w → others env y w
   by (k, (x, u, v, eq, ux, b)) = elim (unary_not k env x u ux) [
     | inl n ↦ negated k x u v eq b n
@@ -297,7 +298,7 @@ led_up env x xs v a c d nm ns k = name_operand env v (a ++ (c ++ d)) (x, a, c ++
 named_up : (env : Env) (o : Option ℕ) (front : List Token) → ((v : Spelled) (u : List Token) → operand env v u → operand env (negated_value o v) (front ++ u)) → (x : P4Name) (y : P4Cond) (a b : List Token) → taken name x a → bind names (λ xs. led env o x xs) y b → cond_ env y (front ++ (a ++ b))
 named_up env o front h x y a b nm (xs, c, d, e, ns, (v, d1, d2, e2, k, rest)) =
     let whole : front ++ (a ++ b) ≡ (front ++ (a ++ (c ++ d1))) ++ d2 =
-        ap (λ (q : List Token). front ++ (a ++ q)) (e ∙ ap (λ (q : List Token). c ++ q) e2 ∙ sym (append_assoc c d1 d2)) ∙ ap (λ (q : List Token). front ++ q) (sym (append_assoc a (c ++ d1) d2)) ∙ sym (append_assoc front (a ++ (c ++ d1)) d2) in
+    ap (λ (q : List Token). front ++ (a ++ q)) (e ∙ ap (λ (q : List Token). c ++ q) e2 ∙ sym (append_assoc c d1 d2)) ∙ ap (λ (q : List Token). front ++ q) (sym (append_assoc a (c ++ d1) d2)) ∙ sym (append_assoc front (a ++ (c ++ d1)) d2) in
     subst (λ (q : List Token). cond_ env y q) (sym whole) (crest_up env o v y (front ++ (a ++ (c ++ d1))) d2 (h v (a ++ (c ++ d1)) (led_up env x xs v a c d1 nm ns k)) rest)
 
 plain_up : (env : Env) (x : P4Name) (y : P4Cond) (u v w : List Token) → w ≡ u ++ v → taken name x u → cnamed env None x y v → cond_ env y w

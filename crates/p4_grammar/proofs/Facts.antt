@@ -1,5 +1,5 @@
 -- What may go on behind an expression, and which tokens do.
-use Rattle.std.proofs.Common.{◌≡◌, ℕ, zero, suc, Bool, true, false, cond, nat_le, List, [], ◌∷◌, ◌++◌, Result, Ok, Err, refl, ap, subst, sym, ◌∙◌}
+use Rattle.std.proofs.Common.{◌≡◌, ℕ, Bool, true, false, cond, nat_le, Result, Ok, Err, refl, sym, ◌∙◌}
 use Rattle.p4_lex.specs.declared.token.Token.{Token}
 use Rattle.p4_lex.specs.declared.token.Sign.{Sign}
 use Rattle.p4_lex.specs.declared.token.Sign.TheVariants as sign
@@ -8,7 +8,6 @@ use Rattle.p4_lex.specs.declared.token.Lexeme.TheVariants as lexeme
 use Rattle.p4_ast.specs.declared.declaration.P4Type.{P4Type}
 use Rattle.p4_ast.specs.declared.expression.P4BinaryOp.{P4BinaryOp}
 use Rattle.p4_ast.specs.declared.expression.P4BinaryOp.TheVariants as binary_op
-use Rattle.p4_ast.specs.declared.expression.P4UnaryOp.{P4UnaryOp}
 use Rattle.p4_grammar.specs.declared.mark.Mark.{Mark}
 use Rattle.p4_grammar.specs.declared.mark.Mark.TheVariants as mark
 use Rattle.p4_grammar.specs.declared.mark.Spelled.{Spelled}
@@ -17,7 +16,7 @@ use Rattle.p4_grammar.specs.declared.mark.ChainOp.TheVariants as chains
 use Rattle.p4_grammar.specs.Forms.{is_given}
 use Rattle.p4_grammar.specs.Tokens.{test, is, sign_of, in_hand}
 use Rattle.p4_grammar.proofs.Basics.{tok, by_sign}
-use Rattle.p4_grammar.specs.Values.{later, of_cast, is_bare, begins_lexeme, begins_operand, sum_lexeme, sum_op, chain_lexeme, chain_op, compare_lexeme, compare_op, unary_lexeme, unary_op, this, again, joined, op_sign}
+use Rattle.p4_grammar.specs.Values.{later, of_cast, is_bare, begins_lexeme, sum_lexeme, chain_lexeme, compare_lexeme, this, again, joined, op_sign}
 
 -- the level of operators at which a sign goes on
 abbrev pub level : Sign → ℕ

@@ -1,21 +1,16 @@
 -- Derivations may be higher; what stands behind a first operand.
-use Rattle.std.proofs.Common.{◌≡◌, ℕ, zero, suc, ◌+◌, ◌≤◌, Bool, true, false, cond, List, [], ◌∷◌, ◌++◌, Result, Ok, Err, Option, Some, None, refl, sym, ap, subst, ◌∙◌, append_assoc, append-nil, arith, inl, inr, ◌⊎◌}
+use Rattle.std.proofs.Common.{ℕ, zero, suc, ◌+◌, ◌≤◌, List, [], ◌++◌, Result, refl, arith, inl, inr, ◌⊎◌}
 use Rattle.p4_lex.specs.declared.token.Token.{Token}
-use Rattle.p4_lex.specs.declared.token.Sign.{Sign}
-use Rattle.p4_lex.specs.declared.token.Sign.TheVariants as sign
-use Rattle.p4_ast.specs.declared.expression.P4BinaryOp.TheVariants as binary_op
 use Rattle.p4_grammar.specs.declared.mark.Spelled.{Spelled}
-use Rattle.p4_grammar.specs.Forms.{Lang, none, only, bind, either, taken, many, chain, Spells}
-use Rattle.p4_grammar.specs.Tokens.{is, words}
+use Rattle.p4_grammar.specs.Forms.{Lang, bind, either, chain, Spells}
 use Rattle.p4_grammar.specs.Values.{Env}
-use Rattle.p4_grammar.specs.GrammarExpressions.{primary, cast_front, unary_of, sum_of, chain_of, compare_of, and_of, or_of, choice_of, unary, expr_, expr}
+use Rattle.p4_grammar.specs.GrammarExpressions.{primary, unary_of, sum_of, chain_of, compare_of, and_of, or_of, choice_of, unary, expr_, expr}
 use Rattle.p4_grammar.specs.ReadingExpressions.{unary_at, expr_at, behind_at}
-use Rattle.p4_grammar.proofs.Languages.{Same}
 use Rattle.p4_grammar.proofs.Forms.{IsEnd, Reads, stuck-reads}
-use Rattle.p4_grammar.proofs.Basics.{any-reads, Begins, begins_any}
+use Rattle.p4_grammar.proofs.Basics.{any-reads}
 use Rattle.p4_grammar.proofs.Facts.{V}
 use Rattle.p4_grammar.proofs.Levels.{compared, same_op, compare_rest, and_rest, or_rest, asked_choice, expr_rest, expr-same, expr_rest-reads, expr_apart}
-use Rattle.p4_grammar.proofs.Factored.{both-reads, unary-begins, up_expr}
+use Rattle.p4_grammar.proofs.Factored.{both-reads}
 
 pub record Sub {A : Type 0} (L M : Lang A) : Type 0 where
   pub up : (x : A) (u : List Token) → L x u → M x u

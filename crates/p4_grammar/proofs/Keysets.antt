@@ -1,34 +1,31 @@
 -- The readers of keysets fit.
-use Rattle.std.proofs.Common.{◌≡◌, ℕ, zero, suc, ◌+◌, ◌≤◌, arith, Bool, true, false, cond, List, [], ◌∷◌, ◌++◌, Result, Ok, Err, Option, Some, None, refl, sym, ap, subst, ◌∙◌, append_assoc, append-nil, inl, inr, ◌⊎◌}
+use Rattle.std.proofs.Common.{◌≡◌, ℕ, Bool, true, false, cond, List, [], ◌∷◌, ◌++◌, Some, None, refl, ap, ◌∙◌, append_assoc}
 use Rattle.p4_lex.specs.declared.token.Token.{Token}
-use Rattle.p4_lex.specs.declared.token.Sign.{Sign}
 use Rattle.p4_lex.specs.declared.token.Sign.TheVariants as sign
 use Rattle.p4_lex.specs.declared.token.Lexeme.{Lexeme}
 use Rattle.p4_lex.specs.declared.token.Lexeme.TheVariants as lexeme
-use Rattle.p4_ast.specs.declared.name.P4Name.{P4Name}
 use Rattle.p4_ast.specs.declared.declaration.P4Type.{P4Type}
-use Rattle.p4_ast.specs.declared.expression.P4Expr.{P4Expr}
 use Rattle.p4_ast.specs.declared.parser.P4Keyset.{P4Keyset}
 use Rattle.p4_ast.specs.declared.parser.P4Keyset.TheVariants as keyset
 use Rattle.p4_ast.specs.declared.parser.P4One.{P4One}
 use Rattle.p4_ast.specs.declared.parser.P4One.TheVariants as one
 use Rattle.p4_grammar.specs.declared.mark.Spelled.{Spelled}
-use Rattle.p4_grammar.specs.Forms.{Lang, none, only, bind, either, taken, many, Reader, done_at, bind_at, taken_at, hand, either_at, many_at, Spells}
-use Rattle.p4_grammar.specs.Tokens.{is, name, words, words_at, in_hand, called}
-use Rattle.p4_grammar.specs.Values.{Env, cast_by, cast_value, begins_lexeme, begins_operand, unary_op, unary_lexeme}
-use Rattle.p4_grammar.specs.GrammarExpressions.{word_type, names, sliced, unary, expr_, expr, expression}
-use Rattle.p4_grammar.specs.Grammar.{one_, keyset_}
-use Rattle.p4_grammar.specs.ReadingExpressions.{word_type_at, parens_at, unary_at, expr_at, behind_at, expression_at, word_type as word_test}
+use Rattle.p4_grammar.specs.Forms.{Lang, only, bind, either, taken, many, done_at, bind_at, hand}
+use Rattle.p4_grammar.specs.Tokens.{is, words, in_hand}
+use Rattle.p4_grammar.specs.Values.{Env, cast_by, cast_value, begins_lexeme, begins_operand}
+use Rattle.p4_grammar.specs.GrammarExpressions.{word_type, expr, expression}
+use Rattle.p4_grammar.specs.Grammar.{one_}
+use Rattle.p4_grammar.specs.ReadingExpressions.{parens_at, unary_at, expr_at, behind_at, expression_at, word_type as word_test}
 use Rattle.p4_grammar.specs.Reading.{masked_at, any_at, one_at, tuple_rest_at, one_behind_at, grouped_at, open_keyset_at, keyset_at}
 use Rattle.p4_grammar.proofs.Forms.{IsEnd, Reads, bind-reads, done-reads, fits}
-use Rattle.p4_grammar.proofs.Basics.{free, is_free, tok, then-reads, words-reads, sign-reads, Begins, begins_taken, begins_bind, begins_either, begins_any, choose-reads, said, sign_begins, name_begins, list_to-reads, behind-reads}
+use Rattle.p4_grammar.proofs.Basics.{tok, then-reads, words-reads, sign-reads, Begins, begins_bind, begins_either, begins_any, choose-reads, sign_begins, list_to-reads, behind-reads}
 use Rattle.p4_grammar.proofs.Facts.{V, all_ends, by_cast}
-use Rattle.p4_grammar.proofs.Expressions.{hand_end, end_end, apart_option, apart_only, option-reads, word_type-reads, word_type_begins, begins_map, plain, parens, cast_, closed, open_, signed, named, name_led, funary}
-use Rattle.p4_grammar.proofs.Operands.{operand_words, parens-reads, plain_begins, open_begins}
+use Rattle.p4_grammar.proofs.Expressions.{end_end, apart_option, apart_only, option-reads, word_type-reads, word_type_begins, begins_map, parens}
+use Rattle.p4_grammar.proofs.Operands.{operand_words, parens-reads}
 use Rattle.p4_grammar.proofs.Levels.{apart_both}
-use Rattle.p4_grammar.proofs.Factored.{down, up, expr-reads, expr-begins, unary-begins}
+use Rattle.p4_grammar.proofs.Factored.{expr-reads, expr-begins, unary-begins}
 use Rattle.p4_grammar.proofs.Plain.{EX, expression-reads}
-use Rattle.p4_grammar.proofs.Higher.{Sub, sub_bind, sub_self, sub_either, operand, behind, behind_of, operand-reads, behind-reads_, behind_apart, split_expr, join_expr, higher}
+use Rattle.p4_grammar.proofs.Higher.{operand, behind, operand-reads, behind-reads_, behind_apart}
 use Rattle.p4_grammar.proofs.Conditions.{without, without-reads, begins_without}
 
 -- what may go on behind one of a keyset
@@ -192,8 +189,8 @@ open_keyset-reads {n = n} env = sign-reads sign.Open λ at. choose-reads (in_han
     (behind-reads (expr-reads env) (λ x. grouped_apart env at x) λ x. grouped-reads env at x)
     (begins_bind (word_type_begins (λ i e. refl) (λ i e. refl) (λ i e. refl))) (begins_bind (begins_map false begins_operand word_test (expr env) operand_words (expr-begins env))))
     (begins_bind (any_begins (λ i e. refl))) (begins_either (begins_bind (word_type_begins (λ i e. refl) (λ i e. refl) (λ i e. refl))) (begins_bind (not_any (expr-begins env)))) where
-  cast_end : (at : ℕ) (t : P4Type) (y : Spelled) (m : List Token) → IsEnd (V 0 (cast_value at t y)) m → IsEnd (V 0 y) m
-  cast_end at t y m e = end_end (V 0 y) (V 0 (cast_value at t y)) (λ a g. by_cast 0 t y.mark a.lexeme g) m e
+      cast_end : (at : ℕ) (t : P4Type) (y : Spelled) (m : List Token) → IsEnd (V 0 (cast_value at t y)) m → IsEnd (V 0 y) m
+      cast_end at t y m e = end_end (V 0 y) (V 0 (cast_value at t y)) (λ a g. by_cast 0 t y.mark a.lexeme g) m e
 
 one_default : {A : Type 0} {L : Lang A} → Begins true begins_operand L → Begins false (in_hand sign.Default) L
 one_default {L = L} h = begins_map false begins_operand (in_hand sign.Default) L (λ a e. default_same a.at a.end a.lexeme e) h where

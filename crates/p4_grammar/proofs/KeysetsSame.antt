@@ -1,7 +1,6 @@
 -- The grammar's keysets are what their reader follows.
-use Rattle.std.proofs.Common.{◌≡◌, ℕ, zero, suc, ◌+◌, ◌≤◌, arith, Bool, true, false, cond, List, [], ◌∷◌, ◌++◌, Result, Ok, Err, Option, Some, None, refl, sym, ap, subst, ◌∙◌, append_assoc, append-nil, inl, inr, ◌⊎◌}
+use Rattle.std.proofs.Common.{◌≡◌, ℕ, suc, ◌+◌, arith, Bool, false, List, [], ◌++◌, Ok, Option, Some, None, refl, sym, ap, subst, ◌∙◌, append_assoc, append-nil, inl, inr, ◌⊎◌}
 use Rattle.p4_lex.specs.declared.token.Token.{Token}
-use Rattle.p4_lex.specs.declared.token.Sign.{Sign}
 use Rattle.p4_lex.specs.declared.token.Sign.TheVariants as sign
 use Rattle.p4_lex.specs.declared.token.Lexeme.{Lexeme}
 use Rattle.p4_lex.specs.declared.token.Lexeme.TheVariants as lexeme
@@ -13,23 +12,19 @@ use Rattle.p4_ast.specs.declared.parser.P4Keyset.TheVariants as keyset
 use Rattle.p4_ast.specs.declared.parser.P4One.{P4One}
 use Rattle.p4_ast.specs.declared.parser.P4One.TheVariants as one
 use Rattle.p4_grammar.specs.declared.mark.Spelled.{Spelled}
-use Rattle.p4_grammar.specs.Forms.{Lang, none, only, bind, either, taken, many, Reader, done_at, bind_at, taken_at, hand, either_at, many_at, Spells}
-use Rattle.p4_grammar.specs.Tokens.{is, name, words, words_at, in_hand, called}
-use Rattle.p4_grammar.specs.Values.{Env, cast_by, cast_value, begins_lexeme, begins_operand, unary_op, unary_lexeme}
-use Rattle.p4_grammar.specs.GrammarExpressions.{word_type, names, sliced, unary, expr_, expr, expression}
+use Rattle.p4_grammar.specs.Forms.{Lang, only, bind, either, taken, hand}
+use Rattle.p4_grammar.specs.Tokens.{is, in_hand}
+use Rattle.p4_grammar.specs.Values.{Env, cast_by, cast_value, unary_lexeme}
+use Rattle.p4_grammar.specs.GrammarExpressions.{word_type, names, unary, expr_, expr}
 use Rattle.p4_grammar.specs.Grammar.{one_, keyset_}
-use Rattle.p4_grammar.specs.ReadingExpressions.{word_type_at, parens_at, unary_at, expr_at, behind_at, expression_at, word_type as word_test}
-use Rattle.p4_grammar.specs.Reading.{masked_at, any_at, one_at, tuple_rest_at, one_behind_at, grouped_at, open_keyset_at, keyset_at}
-use Rattle.p4_grammar.proofs.Forms.{IsEnd, Reads, bind-reads, done-reads, fits}
-use Rattle.p4_grammar.proofs.Basics.{free, is_free, tok, then-reads, words-reads, sign-reads, Begins, begins_taken, begins_bind, begins_either, begins_any, choose-reads, said, sign_begins, name_begins, list_to-reads, behind-reads}
-use Rattle.p4_grammar.proofs.Facts.{V, all_ends, by_cast}
-use Rattle.p4_grammar.proofs.Expressions.{hand_end, end_end, apart_option, apart_only, option-reads, word_type-reads, word_type_begins, begins_map, plain, parens, cast_, closed, open_, signed, named, name_led, funary}
-use Rattle.p4_grammar.proofs.Operands.{operand_words, parens-reads, plain_begins, open_begins}
-use Rattle.p4_grammar.proofs.Levels.{apart_both}
-use Rattle.p4_grammar.proofs.Factored.{down, up, expr-reads, expr-begins, unary-begins}
-use Rattle.p4_grammar.proofs.Plain.{EX, expression-reads}
-use Rattle.p4_grammar.proofs.Higher.{Sub, sub_bind, sub_self, sub_either, operand, behind, behind_of, operand-reads, behind-reads_, behind_apart, split_expr, join_expr, higher}
-use Rattle.p4_grammar.proofs.Conditions.{without, without-reads, begins_without}
+use Rattle.p4_grammar.specs.Reading.{keyset_at}
+use Rattle.p4_grammar.proofs.Forms.{Reads, fits}
+use Rattle.p4_grammar.proofs.Basics.{tok, Begins, begins_taken, begins_bind, sign_begins, name_begins}
+use Rattle.p4_grammar.proofs.Expressions.{parens, cast_, closed, open_, signed, named, name_led, funary}
+use Rattle.p4_grammar.proofs.Operands.{plain_begins}
+use Rattle.p4_grammar.proofs.Factored.{down, up}
+use Rattle.p4_grammar.proofs.Higher.{Sub, sub_bind, sub_self, sub_either, operand, behind_of, split_expr, join_expr, higher}
+use Rattle.p4_grammar.proofs.Conditions.{without}
 use Rattle.p4_grammar.proofs.Keysets.{EM, mask_more, masked, any, tuple_rest, one_behind, grouped, open_keyset, fkeyset, fkeyset-reads, one-is, one-was}
 
 drop_rest : (w u v : List Token) → w ≡ u ++ v → v ≡ [] → w ≡ u

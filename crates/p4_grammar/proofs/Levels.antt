@@ -1,26 +1,24 @@
 -- The readers of operators, level by level, fit.
-use Rattle.std.proofs.Common.{◌≡◌, ℕ, zero, suc, ◌≤◌, Bool, true, false, cond, List, [], ◌∷◌, ◌++◌, length, Result, Ok, Err, refl, sym, ap, subst, ◌∙◌, append_assoc, arith, inl, inr, ◌⊎◌}
+use Rattle.std.proofs.Common.{◌≡◌, ℕ, zero, suc, Bool, true, false, List, [], ◌∷◌, ◌++◌, Result, Ok, refl, sym, ap, subst, ◌∙◌, append_assoc, arith, inl, inr}
 use Rattle.p4_lex.specs.declared.token.Token.{Token}
-use Rattle.p4_lex.specs.declared.token.Sign.{Sign}
 use Rattle.p4_lex.specs.declared.token.Sign.TheVariants as sign
 use Rattle.p4_lex.specs.declared.token.Lexeme.{Lexeme}
 use Rattle.p4_lex.specs.declared.token.Lexeme.TheVariants as lexeme
 use Rattle.p4_ast.specs.declared.expression.P4BinaryOp.{P4BinaryOp}
 use Rattle.p4_ast.specs.declared.expression.P4BinaryOp.TheVariants as binary_op
-use Rattle.p4_grammar.specs.declared.mark.Mark.{Mark}
 use Rattle.p4_grammar.specs.declared.mark.Spelled.{Spelled}
 use Rattle.p4_grammar.specs.declared.mark.ChainOp.{ChainOp}
 use Rattle.p4_grammar.specs.declared.mark.ChainOp.TheVariants as chains
-use Rattle.p4_grammar.specs.Forms.{Lang, none, only, bind, either, taken, Reader, done_at, bind_at, taken_at, hand, either_at, is_given, chain, chain_at}
-use Rattle.p4_grammar.specs.Tokens.{test, is, words, words_at, in_hand}
+use Rattle.p4_grammar.specs.Forms.{Lang, only, bind, either, taken, Reader, done_at, bind_at, hand, is_given, chain, chain_at}
+use Rattle.p4_grammar.specs.Tokens.{is, words, in_hand}
 use Rattle.p4_grammar.specs.Values.{later, is_bare, binary, choice_value, op_sign, this, again, chained, joined, sum_op, chain_op, compare_op}
 use Rattle.p4_grammar.specs.GrammarExpressions.{sum_of, chain_of, compare_of, and_of, or_of, choice_of}
 use Rattle.p4_grammar.specs.ReadingExpressions.{sum_rest_at, sum_at, compared_at, same_op_at, compare_rest_at, compare_at, and_rest_at, and_at, or_rest_at, choice_at, expr_rest_at}
-use Rattle.p4_grammar.proofs.Languages.{Same, same, flip, same_bind, same_either, assoc, factor, swap, ◌then◌}
-use Rattle.p4_grammar.proofs.Forms.{IsEnd, Reads, bind-reads, taken-reads, done-reads, either-reads, after-reads, chain-reads, fewer}
-use Rattle.p4_grammar.proofs.Basics.{free, is_free, tok, is_self, then-reads, words-reads, Begins, begins_taken, begins_bind, begins_either, said, by_sign, sign_begins, behind-reads}
+use Rattle.p4_grammar.proofs.Languages.{Same, same, same_bind, same_either, assoc, factor, swap, ◌then◌}
+use Rattle.p4_grammar.proofs.Forms.{IsEnd, Reads, bind-reads, taken-reads, done-reads, either-reads, chain-reads}
+use Rattle.p4_grammar.proofs.Basics.{free, tok, then-reads, words-reads, Begins, begins_taken, begins_bind, said, sign_begins, behind-reads}
 use Rattle.p4_grammar.proofs.Facts.{V, goes_on, is_read, never, lower0, lower1, lower2, lower3, lower4, by_later, sum_goes, sum_stops, sum_no_chain, chain_goes, chain_stops, compare_goes, compare_no_chain, compare_stops, again_goes, again_stops, and_goes, and_stops, or_goes, or_stops, ask_stops}
-use Rattle.p4_grammar.proofs.Expressions.{end_end, end_hand, hand_end, apart_option, apart_only, apart_begins, option-reads}
+use Rattle.p4_grammar.proofs.Expressions.{end_end, end_hand, hand_end, apart_option, apart_only, option-reads}
 use Rattle.p4_grammar.proofs.Operands.{after_sign}
 
 -- ---- the same languages, behind a first operand

@@ -17,3 +17,6 @@ pub mod Statements
 pub mod Keysets
 pub mod KeysetsSame
 pub mod States
+pub mod Steps
+pub mod Tables
+pub mod Programs

@@ -1,41 +1,36 @@
 -- Statements that begin with a path.
-use Rattle.std.proofs.Common.{◌≡◌, ℕ, zero, suc, Bool, true, false, cond, List, [], ◌∷◌, ◌++◌, Result, Ok, Err, Option, Some, None, refl, sym, ap, subst, ◌∙◌, append_assoc, append-nil, inl, inr, ◌⊎◌}
+use Rattle.std.proofs.Common.{◌≡◌, ℕ, Bool, true, false, cond, List, [], ◌∷◌, ◌++◌, Option, Some, None, refl, sym, ap, subst, ◌∙◌, append_assoc, append-nil, inl, inr}
 use Rattle.std.specs.Prelude.{codes}
 use Rattle.std.specs.Str.{bytes_eq}
 use Rattle.p4_lex.specs.declared.token.Token.{Token}
-use Rattle.p4_lex.specs.declared.token.Sign.{Sign}
 use Rattle.p4_lex.specs.declared.token.Sign.TheVariants as sign
-use Rattle.p4_lex.specs.declared.token.Lexeme.{Lexeme}
 use Rattle.p4_lex.specs.declared.token.Lexeme.TheVariants as lexeme
 use Rattle.p4_ast.specs.declared.name.P4Name.{P4Name}
 use Rattle.p4_ast.specs.declared.name.P4Slice.{P4Slice}
 use Rattle.p4_ast.specs.declared.name.P4Left.{P4Left}
 use Rattle.p4_ast.specs.declared.declaration.P4Type.{P4Type}
-use Rattle.p4_ast.specs.declared.expression.P4Expr.{P4Expr}
 use Rattle.p4_ast.specs.declared.statement.P4Validity.{P4Validity}
 use Rattle.p4_ast.specs.declared.statement.P4Validity.TheVariants as validity
 use Rattle.p4_grammar.specs.declared.mark.Mark.{Mark}
 use Rattle.p4_grammar.specs.declared.mark.Mark.TheVariants as mark
 use Rattle.p4_grammar.specs.declared.mark.Piece.{Piece}
 use Rattle.p4_grammar.specs.declared.mark.Spelled.{Spelled}
-use Rattle.p4_grammar.specs.Forms.{Lang, none, only, bind, either, taken, many, Reader, done_at, bind_at, taken_at, hand, either_at, Spells}
-use Rattle.p4_grammar.specs.Tokens.{is, name, the_name, words, words_at, in_hand, called, before}
-use Rattle.p4_grammar.specs.Values.{Env, of_path, of_cast, is_bare, path_value, cast_value}
+use Rattle.p4_grammar.specs.Forms.{Lang, only, bind, either, taken, many, hand}
+use Rattle.p4_grammar.specs.Tokens.{is, name, the_name, words, in_hand, called, before}
+use Rattle.p4_grammar.specs.Values.{Env, is_bare}
 use Rattle.p4_grammar.specs.Trees.{alone, left_of, assign_piece, read_piece, write_piece, valid_piece}
-use Rattle.p4_grammar.specs.GrammarExpressions.{path, names, slice, called_path, cast_front, unary_of, unary, expr_, expr, expression}
-use Rattle.p4_grammar.specs.GrammarStatements.{slice_or_none, left, assign, cast_or_none, index, read, write, valid}
-use Rattle.p4_grammar.specs.ReadingExpressions.{expr_at, expression_at, names_at}
+use Rattle.p4_grammar.specs.GrammarExpressions.{names, expr, expression}
+use Rattle.p4_grammar.specs.GrammarStatements.{slice_or_none}
 use Rattle.p4_grammar.specs.ReadingStatements.{read_rest_at, assigned_at, assign_end_at, assign_at, write_rest_at, valid_rest_at, or_valid_at, or_write_at, path_led_at}
-use Rattle.p4_grammar.proofs.Languages.{Same, same, flip, same_bind, same_either, assoc, dist, factor, bind_only, swap, turn, same_words, words_bind, factor_words, ◌then◌}
-use Rattle.p4_grammar.proofs.Forms.{IsEnd, Reads, bind-reads, done-reads, fits, either-reads}
-use Rattle.p4_grammar.proofs.Basics.{free, is_free, tok, then-reads, words-reads, Begins, begins_bind, begins_either, choose-reads, said, sign_begins, behind-reads}
-use Rattle.p4_grammar.proofs.Facts.{V, goes_on, is_read, never}
-use Rattle.p4_grammar.proofs.Expressions.{names-reads, slice_begins, hand_end}
+use Rattle.p4_grammar.proofs.Languages.{Same}
+use Rattle.p4_grammar.proofs.Forms.{Reads, done-reads}
+use Rattle.p4_grammar.proofs.Basics.{free, tok, words-reads, Begins, begins_bind, begins_either, choose-reads, sign_begins, behind-reads}
+use Rattle.p4_grammar.proofs.Facts.{goes_on, is_read}
+use Rattle.p4_grammar.proofs.Expressions.{slice_begins}
 use Rattle.p4_grammar.proofs.Operands.{same_bytes}
-use Rattle.p4_grammar.proofs.Called.{calls, dotted-same, name_there, name_back}
-use Rattle.p4_grammar.proofs.Alone.{So, reading, expr_so}
-use Rattle.p4_grammar.proofs.Factored.{path-same, expr-reads, expr-begins, path_unary, up_expr}
-use Rattle.p4_grammar.proofs.Plain.{EX, expression-reads, expression_begins, closed_by-reads, not_close, slice_or_none-reads}
+use Rattle.p4_grammar.proofs.Called.{name_there, name_back}
+use Rattle.p4_grammar.proofs.Factored.{expr-reads}
+use Rattle.p4_grammar.proofs.Plain.{expression-reads, expression_begins, closed_by-reads, not_close, slice_or_none-reads}
 
 -- ---- a path of a name and a last one
 
@@ -248,8 +243,10 @@ led_begins {b = b} {t = t} env x xs h i j = by (alone (called (codes "write") x 
   valid_by : (v : P4Validity) (o : Option (List P4Name)) (P : Lang Piece) → Begins b t P → Begins b t (or_valid v o P)
   valid_by v None P g = g
   valid_by v (Some q) P g = begins_either (valid_rest_begins q v h) g
+
   write_by : (o : Option P4Name) (P : Lang Piece) → Begins b t P → Begins b t (or_write env o P)
   write_by None P g = g
   write_by (Some c) P g = begins_either (write_rest_begins env c h) g
+
   by : (o1 : Option P4Name) (o2 o3 : Option (List P4Name)) → Begins b t (or_write env o1 (or_valid validity.SetValid o2 (or_valid validity.SetInvalid o3 (assigns env (x ∷ xs)))))
   by o1 o2 o3 = write_by o1 _ (valid_by validity.SetValid o2 _ (valid_by validity.SetInvalid o3 _ (assigns_begins env (x ∷ xs) i j)))

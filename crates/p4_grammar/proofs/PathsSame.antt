@@ -1,42 +1,28 @@
 -- Assignments, reads, writes and validity statements of the grammar are what the reader of paths follows.
-use Rattle.std.proofs.Common.{◌≡◌, ℕ, zero, suc, Bool, true, false, cond, List, [], ◌∷◌, ◌++◌, Result, Ok, Err, Option, Some, None, refl, sym, ap, subst, ◌∙◌, append_assoc, append-nil, inl, inr, ◌⊎◌}
+use Rattle.std.proofs.Common.{◌≡◌, ℕ, suc, Bool, true, false, cond, List, [], ◌∷◌, ◌++◌, Option, Some, None, refl, sym, ap, subst, ◌∙◌, append_assoc, append-nil, inl, inr}
 use Rattle.std.specs.Prelude.{codes}
 use Rattle.std.specs.Str.{bytes_eq}
 use Rattle.p4_lex.specs.declared.token.Token.{Token}
-use Rattle.p4_lex.specs.declared.token.Sign.{Sign}
 use Rattle.p4_lex.specs.declared.token.Sign.TheVariants as sign
-use Rattle.p4_lex.specs.declared.token.Lexeme.{Lexeme}
-use Rattle.p4_lex.specs.declared.token.Lexeme.TheVariants as lexeme
 use Rattle.p4_ast.specs.declared.name.P4Name.{P4Name}
-use Rattle.p4_ast.specs.declared.name.P4Slice.{P4Slice}
 use Rattle.p4_ast.specs.declared.name.P4Left.{P4Left}
 use Rattle.p4_ast.specs.declared.declaration.P4Type.{P4Type}
-use Rattle.p4_ast.specs.declared.expression.P4Expr.{P4Expr}
 use Rattle.p4_ast.specs.declared.statement.P4Validity.{P4Validity}
 use Rattle.p4_ast.specs.declared.statement.P4Validity.TheVariants as validity
 use Rattle.p4_grammar.specs.declared.mark.Mark.{Mark}
 use Rattle.p4_grammar.specs.declared.mark.Mark.TheVariants as mark
 use Rattle.p4_grammar.specs.declared.mark.Piece.{Piece}
 use Rattle.p4_grammar.specs.declared.mark.Spelled.{Spelled}
-use Rattle.p4_grammar.specs.Forms.{Lang, none, only, bind, either, taken, many, Reader, done_at, bind_at, taken_at, hand, either_at, Spells}
-use Rattle.p4_grammar.specs.Tokens.{is, name, the_name, words, words_at, in_hand, called, before}
-use Rattle.p4_grammar.specs.Values.{Env, of_path, of_cast, is_bare, path_value, cast_value}
-use Rattle.p4_grammar.specs.Trees.{alone, left_of, assign_piece, read_piece, write_piece, valid_piece}
-use Rattle.p4_grammar.specs.GrammarExpressions.{path, names, slice, called_path, cast_front, unary_of, unary, expr_, expr, expression}
-use Rattle.p4_grammar.specs.GrammarStatements.{slice_or_none, left, assign, cast_or_none, index, read, write, valid}
-use Rattle.p4_grammar.specs.ReadingExpressions.{expr_at, expression_at, names_at}
-use Rattle.p4_grammar.specs.ReadingStatements.{read_rest_at, assigned_at, assign_end_at, assign_at, write_rest_at, valid_rest_at, or_valid_at, or_write_at, path_led_at}
-use Rattle.p4_grammar.proofs.Languages.{Same, same, flip, same_bind, same_either, assoc, dist, factor, bind_only, swap, turn, same_words, words_bind, factor_words, ◌then◌}
-use Rattle.p4_grammar.proofs.Forms.{IsEnd, Reads, bind-reads, done-reads, fits, either-reads}
-use Rattle.p4_grammar.proofs.Basics.{free, is_free, tok, then-reads, words-reads, Begins, begins_bind, begins_either, choose-reads, said, sign_begins, behind-reads}
-use Rattle.p4_grammar.proofs.Facts.{V, goes_on, is_read, never}
-use Rattle.p4_grammar.proofs.Expressions.{names-reads, slice_begins, hand_end}
-use Rattle.p4_grammar.proofs.Operands.{same_bytes}
-use Rattle.p4_grammar.proofs.Called.{calls, dotted-same, name_there, name_back}
+use Rattle.p4_grammar.specs.Forms.{Lang, none, only, bind, either, taken, many}
+use Rattle.p4_grammar.specs.Tokens.{is, name, the_name, words, called}
+use Rattle.p4_grammar.specs.Values.{Env, of_cast, path_value, cast_value}
+use Rattle.p4_grammar.specs.Trees.{alone, left_of, assign_piece, read_piece, valid_piece}
+use Rattle.p4_grammar.specs.GrammarExpressions.{path, names, called_path, cast_front, unary_of, unary, expr}
+use Rattle.p4_grammar.specs.GrammarStatements.{slice_or_none, left, assign, cast_or_none, index, read, write}
+use Rattle.p4_grammar.proofs.Languages.{Same, same, flip, same_bind, same_either, assoc, dist, factor, bind_only, same_words, words_bind, factor_words, ◌then◌}
+use Rattle.p4_grammar.proofs.Called.{calls, dotted-same, name_there}
 use Rattle.p4_grammar.proofs.Alone.{So, reading, expr_so}
-use Rattle.p4_grammar.proofs.Factored.{path-same, expr-reads, expr-begins, path_unary, up_expr}
-use Rattle.p4_grammar.proofs.Plain.{EX, expression-reads, expression_begins, closed_by-reads, not_close, slice_or_none-reads}
-use Rattle.p4_grammar.proofs.Alone.{CastReading}
+use Rattle.p4_grammar.proofs.Factored.{path-same, path_unary, up_expr}
 use Rattle.p4_grammar.proofs.Paths.{calls_one, one-same, read_rest, assigned, assign_end, assigns, write_rest, valid_rest, or_valid, or_write, path_led}
 
 drop_rest : (w u v : List Token) → w ≡ u ++ v → v ≡ [] → w ≡ u

@@ -1,31 +1,27 @@
 -- The readers of statements fit.
-use Rattle.std.proofs.Common.{◌≡◌, ℕ, zero, suc, ◌+◌, ◌≤◌, length, arith, Bool, true, false, cond, List, [], ◌∷◌, ◌++◌, Result, Ok, Err, Option, Some, None, refl, sym, ap, subst, ◌∙◌, append_assoc, append-nil, inl, inr, ◌⊎◌}
-use Rattle.std.specs.Prelude.{codes}
+use Rattle.std.proofs.Common.{◌≡◌, ℕ, zero, suc, ◌+◌, ◌≤◌, length, arith, Bool, true, false, cond, List, [], ◌∷◌, ◌++◌, refl, sym, ap, subst, ◌∙◌, inl, inr, ◌⊎◌}
 use Rattle.p4_lex.specs.declared.token.Token.{Token}
-use Rattle.p4_lex.specs.declared.token.Sign.{Sign}
 use Rattle.p4_lex.specs.declared.token.Sign.TheVariants as sign
 use Rattle.p4_lex.specs.declared.token.Lexeme.{Lexeme}
 use Rattle.p4_lex.specs.declared.token.Lexeme.TheVariants as lexeme
 use Rattle.p4_ast.specs.declared.name.P4Name.{P4Name}
-use Rattle.p4_ast.specs.declared.statement.P4Block.{P4Block}
 use Rattle.p4_ast.specs.declared.statement.P4Cond.{P4Cond}
-use Rattle.p4_ast.specs.declared.statement.P4Validity.TheVariants as validity
 use Rattle.p4_grammar.specs.declared.mark.Piece.{Piece}
 use Rattle.p4_grammar.specs.declared.mark.Piece.TheVariants as piece
-use Rattle.p4_grammar.specs.Forms.{Lang, none, only, bind, either, taken, many, Reader, done_at, bind_at, taken_at, hand, either_at, many_at, is_given, Spells}
-use Rattle.p4_grammar.specs.Tokens.{is, name, words, words_at, in_hand, but, is_name, called}
+use Rattle.p4_grammar.specs.Forms.{Lang, only, bind, either, taken, many, Reader, done_at, bind_at, many_at}
+use Rattle.p4_grammar.specs.Tokens.{is, name, words, in_hand, but, is_name}
 use Rattle.p4_grammar.specs.Values.{Env, named_type}
-use Rattle.p4_grammar.specs.Trees.{kept_all, block_of, is_open, if_piece, if_else_piece, valid_piece, apply_piece, call_piece, key_piece, var_piece}
-use Rattle.p4_grammar.specs.GrammarExpressions.{bit_type, bool_type, std_type, word_type, name_type, type_, names, called_path, args}
-use Rattle.p4_grammar.specs.GrammarStatements.{cond_, var, assign, read, write, keystmt, valid, apply, callstmt, block_of_stmts, else_, if_, stmt_of, stmts, stmt, block}
-use Rattle.p4_grammar.specs.ReadingExpressions.{names_at, word_type_at, args_at, word_type as word_test}
-use Rattle.p4_grammar.specs.ReadingStatements.{cond_at, var_rest_at, var_at, path_led_at, name_led_at, key_at, block_of_at, else_at, if_at, stmt_of_at, stmt_at, block_at}
-use Rattle.p4_grammar.proofs.Languages.{Same, same, flip, same_bind, same_either, assoc, dist, factor, bind_only, swap, turn, same_words, words_bind, factor_words, ◌then◌}
-use Rattle.p4_grammar.proofs.Forms.{IsEnd, Reads, bind-reads, done-reads, fits, either-reads, after-reads, fewer, stuck-reads, many-reads, shifted-reads}
-use Rattle.p4_grammar.proofs.Basics.{free, is_free, tok, then-reads, words-reads, sign-reads, named-reads, Begins, begins_taken, begins_bind, begins_either, begins_any, choose-reads, said, sign_begins, name_begins, behind-reads, some_by, any-reads, list_to-reads}
-use Rattle.p4_grammar.proofs.Expressions.{names-reads, hand_end, end_end, end_hand, word_type-reads, word_type_begins, name_type_begins, apart_only, option-reads}
+use Rattle.p4_grammar.specs.Trees.{kept_all, block_of, is_open, if_piece, if_else_piece, apply_piece, call_piece, key_piece, var_piece}
+use Rattle.p4_grammar.specs.GrammarExpressions.{word_type, name_type, type_, names, args}
+use Rattle.p4_grammar.specs.GrammarStatements.{var, keystmt, valid, apply, callstmt, block_of_stmts, else_, if_, stmt_of, stmts, stmt, block}
+use Rattle.p4_grammar.specs.ReadingExpressions.{word_type_at, word_type as word_test}
+use Rattle.p4_grammar.specs.ReadingStatements.{var_at, name_led_at, key_at, block_of_at, else_at, if_at, stmt_of_at, stmt_at, block_at}
+use Rattle.p4_grammar.proofs.Languages.{Same, same, flip, same_bind, same_either, assoc, dist, factor, bind_only, turn, factor_words, ◌then◌}
+use Rattle.p4_grammar.proofs.Forms.{IsEnd, Reads, bind-reads, done-reads, fits, fewer, stuck-reads, many-reads, shifted-reads}
+use Rattle.p4_grammar.proofs.Basics.{free, is_free, tok, then-reads, words-reads, sign-reads, named-reads, Begins, begins_bind, begins_either, begins_any, choose-reads, said, sign_begins, name_begins, behind-reads, some_by, any-reads}
+use Rattle.p4_grammar.proofs.Expressions.{names-reads, hand_end, end_end, word_type-reads, word_type_begins, option-reads}
 use Rattle.p4_grammar.proofs.Operands.{after_sign, after_name}
-use Rattle.p4_grammar.proofs.Plain.{EX, expression-reads, closed_by-reads, args-reads, var_rest, var_rest-reads, var_of-reads, var-is}
+use Rattle.p4_grammar.proofs.Plain.{closed_by-reads, args-reads, var_rest, var_rest-reads, var-is}
 use Rattle.p4_grammar.proofs.Paths.{or_write, or_valid, assigns_begins, path_led, path_led-reads, led_begins}
 use Rattle.p4_grammar.proofs.PathsSame.{paths, paths-same}
 use Rattle.p4_grammar.proofs.Conditions.{names-same, cond-reads}

@@ -1,28 +1,23 @@
 -- The readers of states and of the parser fit.
-use Rattle.std.proofs.Common.{◌≡◌, ℕ, zero, suc, ◌+◌, ◌≤◌, length, arith, Bool, true, false, cond, List, [], ◌∷◌, ◌++◌, Result, Ok, Err, Option, Some, None, refl, sym, ap, subst, ◌∙◌, append_assoc, append-nil, inl, inr, ◌⊎◌}
+use Rattle.std.proofs.Common.{◌≡◌, ℕ, Bool, true, List, [], ◌∷◌, Option, Some, None, refl, sym, subst, inl, inr}
 use Rattle.std.specs.Prelude.{codes}
 use Rattle.p4_lex.specs.declared.token.Token.{Token}
-use Rattle.p4_lex.specs.declared.token.Sign.{Sign}
 use Rattle.p4_lex.specs.declared.token.Sign.TheVariants as sign
-use Rattle.p4_lex.specs.declared.token.Lexeme.{Lexeme}
 use Rattle.p4_lex.specs.declared.token.Lexeme.TheVariants as lexeme
 use Rattle.p4_ast.specs.declared.name.P4Name.{P4Name}
 use Rattle.p4_ast.specs.declared.parser.P4Step.{P4Step}
 use Rattle.p4_ast.specs.declared.parser.P4Step.TheVariants as step
 use Rattle.p4_ast.specs.declared.parser.P4Target.TheVariants as target
-use Rattle.p4_ast.specs.declared.parser.P4Keyset.{P4Keyset}
-use Rattle.p4_ast.specs.declared.parser.P4One.{P4One}
-use Rattle.p4_grammar.specs.Forms.{Lang, none, only, bind, either, taken, many, Reader, done_at, bind_at, taken_at, hand, either_at, many_at, Spells}
-use Rattle.p4_grammar.specs.Tokens.{is, name, the_name, words, words_at, in_hand, but, called}
+use Rattle.p4_grammar.specs.Forms.{Lang, only, bind, either, taken}
+use Rattle.p4_grammar.specs.Tokens.{name, words, in_hand, but, called}
 use Rattle.p4_grammar.specs.Values.{Env, path_of, first_at}
 use Rattle.p4_grammar.specs.Trees.{alone, left_of, keyset_place}
-use Rattle.p4_grammar.specs.GrammarExpressions.{path, names, expr, expression, expressions}
+use Rattle.p4_grammar.specs.GrammarExpressions.{path, names, expr, expression}
 use Rattle.p4_grammar.specs.GrammarStatements.{slice_or_none}
-use Rattle.p4_grammar.specs.Grammar.{one_, keyset_, extract, state_assign, step_, case_, select, target_, state, states, parser, param}
-use Rattle.p4_grammar.specs.ReadingExpressions.{names_at}
+use Rattle.p4_grammar.specs.Grammar.{one_, keyset_, extract, state_assign, step_, case_, select, target_, state, states, parser}
 use Rattle.p4_grammar.specs.Reading.{state_assign_at, extract_rest_at, or_extract_at, step_at, case_at, select_at, target_at, state_at, states_at, parser_at}
-use Rattle.p4_grammar.proofs.Languages.{Same, same, flip, same_bind, same_either, assoc, dist, factor, bind_only, ◌then◌}
-use Rattle.p4_grammar.proofs.Forms.{IsEnd, Reads, bind-reads, done-reads, fits}
+use Rattle.p4_grammar.proofs.Languages.{Same, same, same_bind, same_either, ◌then◌}
+use Rattle.p4_grammar.proofs.Forms.{Reads, done-reads}
 use Rattle.p4_grammar.proofs.Basics.{free, tok, then-reads, words-reads, sign-reads, named-reads, Begins, begins_bind, begins_either, choose-reads, said, sign_begins, name_begins, behind-reads}
 use Rattle.p4_grammar.proofs.Expressions.{names-reads, path-reads}
 use Rattle.p4_grammar.proofs.Factored.{path-same, expr-begins}

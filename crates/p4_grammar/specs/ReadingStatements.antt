@@ -7,7 +7,6 @@ use Rattle.p4_ast.specs.declared.name.P4Left.{P4Left}
 use Rattle.p4_ast.specs.declared.declaration.P4Type.{P4Type}
 use Rattle.p4_ast.specs.declared.expression.P4UnaryOp.TheVariants as op
 use Rattle.p4_ast.specs.declared.control.P4Var.{P4Var}
-use Rattle.p4_ast.specs.declared.statement.P4Stmt.TheVariants as stmt
 use Rattle.p4_ast.specs.declared.statement.P4Block.{P4Block}
 use Rattle.p4_ast.specs.declared.statement.P4Cond.{P4Cond}
 use Rattle.p4_ast.specs.declared.statement.P4Cond.TheVariants as condition
