@@ -1,3 +1,4 @@
 pub mod Again
 pub mod AgainPlain
 pub mod AgainExprs
+pub mod AgainStatements
