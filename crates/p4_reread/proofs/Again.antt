@@ -351,3 +351,11 @@ says_self = record { at = λ x w d a. (w, d, a) }
 pub all_true : (ls : List Lexeme) → All (λ l. Unit {0}) ls
 all_true [] = tt
 all_true (l ∷ ls) = (tt {0}, all_true ls)
+
+module _ {A : Type 0} (V : Lexeme → Type 0) (L : Lang A) (P : A → Type 0) (h : Says V L P) where
+  many_at : (xs : List A) (w : List Token) → many L xs w → All V (lexemes w) → AllByRecursion P xs
+  many_at [] w d a = tt
+  many_at (x ∷ xs) w (u, v, e, d, ds) a = (h.at x u d (all_parts V w u v e a).0, many_at xs v ds (all_parts V w u v e a).1)
+
+pub says_many : {A : Type 0} {V : Lexeme → Type 0} {L : Lang A} {P : A → Type 0} → Says V L P → Says V (many L) (AllByRecursion P)
+says_many {V = V} {L = L} {P = P} h = record { at = many_at V L P h }

@@ -24,6 +24,7 @@ use Rattle.p4_ast.specs.Bare.{bare_name, bare_number, bare_path, bare_slice, bar
 use Rattle.p4_ast.proofs.Folds.{fold_expr-Choice, fold_expr-Binary, fold_expr-Unary, fold_expr-Cast, fold_expr-Slice, fold_expr-Number, fold_expr-True, fold_expr-False, fold_expr-Path, fold_expr-IsValid}
 use Rattle.p4_print.specs.Shared.{the, separated, number as number_lexeme, type_tokens, path_tokens, slice_tokens}
 use Rattle.p4_print.specs.Expressions.{binary_sign, unary_sign, where_so, wrapped, expr_step, expr_as, expr_tokens, operand_tokens, args_tokens}
+use Rattle.p4_print.specs.Statements.{cast_tokens}
 use Rattle.p4_print.proofs.Trees.{as-Choice, as-Binary, as-Unary, as-Cast, as-Slice, as-Number, as-True, as-False, as-IsValid}
 use Rattle.p4_grammar.specs.declared.mark.Mark.{Mark}
 use Rattle.p4_grammar.specs.declared.mark.Mark.TheVariants as mark
@@ -36,7 +37,7 @@ use Rattle.p4_grammar.specs.Values.{Env, has, later, of_cast, of_path, of_parens
 use Rattle.p4_grammar.specs.GrammarExpressions.{type_, path, slice, sliced, called_path, primary, casts, cast_front, unary_of, sum_of, chain_of, compare_of, and_of, or_of, choice_of, unary, expr_, expr, expression, expressions, args}
 use Rattle.p4_grammar.proofs.Basics.{tok, is_self, given_self}
 use Rattle.p4_reread.specs.Again.{lexemes}
-use Rattle.p4_reread.proofs.Again.{Parts, parts, one_token, All, Signs, all_join, Again, Says, says_bind, says_only, says_either, says_nothing, says_words, says_self, Spelt, all_true, sign-again, number-again, whole, step, last, fork, done, ends, words_step, list-again}
+use Rattle.p4_reread.proofs.Again.{Parts, parts, one_token, All, Signs, all_join, Again, Says, says_bind, says_only, says_either, says_nothing, says_words, says_self, Spelt, all_true, sign-again, number-again, whole, step, last, fork, Onward, done, ends, words_step, list-again}
 use Rattle.p4_reread.proofs.AgainPlain.{type-again, path-again, slice-again, called-again, names_tokens, called_tokens}
 
 -- ---- tokens
@@ -209,6 +210,36 @@ module _ (j : ℕ) (U : Lang Spelled) (x y : Spelled) (t : Token) (u v : List To
   two binary_op.ShiftLeft m h = chain_two chains.ShiftLeft (ap chain_lexeme h)
   two binary_op.ShiftRight m h = chain_two chains.ShiftRight (ap chain_lexeme h)
   two binary_op.Concat m h = chain_two chains.Concat (ap chain_lexeme h)
+
+-- ---- casts
+
+-- casts go by what a type says, wherever it stands
+casts_bare : (env : Env) (t : P4Type) → casts env t ≡ casts env (bare_type t)
+casts_bare env (type.Bit at w) = refl
+casts_bare env (type.Bool at) = refl
+casts_bare env (type.Name at x) = refl
+casts_bare env (type.StdT at) = refl
+
+casts_same : (env : Env) (t u : P4Type) → bare_type u ≡ bare_type t → casts env u ≡ casts env t
+casts_same env t u e = casts_bare env u ∙ ap (casts env) e ∙ sym (casts_bare env t)
+
+allowed : {A : Type 0} (c : Bool) (L : Lang A) (x : A) (w : List Token) → c ≡ true → L x w → cond c L none x w
+allowed true L x w e d = d
+allowed false L x w e d = absurd cc
+
+front_again : (env : Env) (t u : P4Type) → bare_type u ≡ bare_type t → casts env t ≡ true → (o c : Token) (w : List Token) → is sign.Open o ≡ Ok o.at → is sign.Close c ≡ Ok c.at → type_ u w → cast_front env (o.at, u) (o ∷ w ++ c ∷ [])
+unfolding cast_front
+front_again env t u e can o c w opens closes d = (o.at, o ∷ [], w ++ c ∷ [], refl, (o, refl, opens), (u, w, c ∷ [], refl, d, allowed (casts env u) (words (sign.Close ∷ []) (only (o.at, u))) (o.at, u) (c ∷ []) (casts_same env t u e ∙ can) (c.at, c ∷ [], [], refl, (c, refl, closes), (refl, refl))))
+
+-- what may go on where it may
+can_onward : {Y C : Type 0} {p : List Lexeme → List Lexeme} {f : Y → List Lexeme} {b : Y → C} {K M : Lang Y} (c d : Bool) → d ≡ c → Onward p f b K M → Onward p f b (cond c K none) (cond d M none)
+can_onward true true e h = h
+can_onward true false e h = absurd cc
+can_onward false d e h = record { left = λ apart y w l. absurd l }
+
+pub cast_front-again : (env : Env) → Again (cast_front env) (λ c. cast_tokens c.1) (λ c. bare_type c.1)
+unfolding cast_front
+cast_front-again env = whole (step (sign-again sign.Open) λ at other u. step type-again λ t v e. can_onward (casts env t) (casts env v) (casts_same env t v e) (words_step (sign.Close ∷ []) (done refl e)))
 
 -- ---- trees that their tokens spell again
 
@@ -388,21 +419,6 @@ module _ (env : Env) (V : Lexeme → Type 0) (signs : Signs V) where
           mark = later_parens env z.value.mark z.mark;
         }
 
-  -- casts go by what a type says
-  casts_same : (t : P4Type) → casts env t ≡ casts env (bare_type t)
-  casts_same (type.Bit at w) = refl
-  casts_same (type.Bool at) = refl
-  casts_same (type.Name at x) = refl
-  casts_same (type.StdT at) = refl
-
-  allowed : {A : Type 0} (c : Bool) (L : Lang A) (x : A) (w : List Token) → c ≡ true → L x w → cond c L none x w
-  allowed true L x w e d = d
-  allowed false L x w e d = absurd cc
-
-  pub front_again : (t u : P4Type) → bare_type u ≡ bare_type t → casts env t ≡ true → (o c : Token) (w : List Token) → is sign.Open o ≡ Ok o.at → is sign.Close c ≡ Ok c.at → type_ u w → cast_front env (o.at, u) (o ∷ w ++ c ∷ [])
-  unfolding cast_front
-  front_again t u e can o c w opens closes d = (o.at, o ∷ [], w ++ c ∷ [], refl, (o, refl, opens), (u, w, c ∷ [], refl, d, allowed (casts env u) (words (sign.Close ∷ []) (only (o.at, u))) (o.at, u) (c ∷ []) (casts_same u ∙ ap (casts env) e ∙ sym (casts_same t) ∙ can) (c.at, c ∷ [], [], refl, (c, refl, closes), (refl, refl))))
-
   fine_cast : (at : ℕ) (t : P4Type) (a : P4Expr) → Spelt V type_ t → casts env t ≡ true → Fine env V a → Fine env V (expr.Cast at t a)
   unfolding unary unary_of
   fine_cast at t a (w, d, all) can f = wrap (expr.Cast at t a) (the sign.Open ∷ (type_tokens t ++ (the sign.Close ∷ expr_as a true))) (f.height + 2) (as-Cast at t a) again (signs sign.Open, all_join V (type_tokens t) (the sign.Close ∷ expr_as a true) (type-again.kept V signs t w d all) (signs sign.Close, f.kept true)) where
@@ -418,7 +434,7 @@ module _ (env : Env) (V : Lexeme → Type 0) (signs : Signs V) where
         let q : Around (type_tokens t) (the sign.Close) (expr_as a true) p.behind = around (type_tokens t) (the sign.Close) (expr_as a true) p.behind p.behinds in
         let y : (y : P4Type) × type_ y q.front × (bare_type y ≡ bare_type t) = type-again.back t w d q.front q.fronts in
         let x : Low (suc j) a q.behind = low j a q.behind (f.operand j (omega (arith, up)) q.behind q.behinds) in
-        let front : cast_front env (p.token.at, y.0) (p.token ∷ q.front ++ q.token ∷ []) = front_again t y.0 y.2 can p.token q.token q.front (sign_at sign.Open p.token p.here) (sign_at sign.Close q.token q.here) y.1 in
+        let front : cast_front env (p.token.at, y.0) (p.token ∷ q.front ++ q.token ∷ []) = front_again env t y.0 y.2 can p.token q.token q.front (sign_at sign.Open p.token p.here) (sign_at sign.Close q.token q.here) y.1 in
         record {
           value = cast_value p.token.at y.0 x.value;
           spelt = alone_up (suc j) env (cast_value p.token.at y.0 x.value) v (spelt j v p.front p.behind q.front q.behind p.token q.token y.0 x.value p.parted p.fronts q.parted front x.spelt);

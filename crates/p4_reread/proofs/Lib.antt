@@ -8,3 +8,4 @@ pub mod LexDigits
 pub mod LexWords
 pub mod LexSigns
 pub mod LexAgain
+pub mod AgainStatements
