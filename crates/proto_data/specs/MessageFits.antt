@@ -63,6 +63,21 @@ config_fits c =
     && (nat_le 1 (length c.chain)
     && (nat_le (length c.chain) 5 && (rises c.chain && list_all (λ n. nat_lt n 5) c.chain)))
 
+-- what a switch asks of the store
+abbrev pub is_request : Body → Bool
+is_request (Body.Ask inc nonce key load) = true
+is_request (Body.Put inc epoch number key delta load) = true
+is_request (Body.Snap inc epoch round key chunk chunks cells) = true
+is_request _ = false
+
+-- what the store answers a switch
+abbrev pub is_answer : Body → Bool
+is_answer (Body.Grant inc nonce epoch key cells load) = true
+is_answer (Body.Busy inc nonce key mark) = true
+is_answer (Body.Ack inc epoch upto key load) = true
+is_answer (Body.Deny inc epoch key) = true
+is_answer _ = false
+
 abbrev pub body_fits : Body → Bool
 body_fits (Body.Ask inc nonce key load) = are_u32 inc nonce 0 && (key_fits key && load_fits load)
 body_fits (Body.Grant inc nonce epoch key cells load) =

@@ -1,7 +1,7 @@
 //! Which messages have a spelling as a frame.
-ghost use Rattle.std.specs.Prelude.{ℕ, ◌≡◌, ◌<◌, ◌&&◌, nat_lt, nat_le, length};
+ghost use Rattle.std.specs.Prelude.{ℕ, ◌≡◌, ◌<◌, ◌&&◌, true, nat_lt, nat_le, length};
 ghost use Rattle.std.specs.List.{list_all};
-ghost use Rattle.proto_data.specs.MessageFits.{are_u32, body_fits, cells_fit, config_fits, delta_fits, echoed_fits, entry_spelled, firsts, from_master, is_store, is_switch, is_u32, key_fits, load_fits, mark_fits, message_fits, nodes_fit, rises, switch_fits};
+ghost use Rattle.proto_data.specs.MessageFits.{are_u32, body_fits, cells_fit, config_fits, delta_fits, echoed_fits, entry_spelled, firsts, from_master, is_answer, is_request, is_store, is_switch, is_u32, key_fits, load_fits, mark_fits, message_fits, nodes_fit, rises, switch_fits};
 
 use crate::message::{Body, Carried, Config, Echoed, Entry, Msg};
 use rp_app::Delta;
@@ -170,7 +170,9 @@ fn config_fits(config: &Config) -> bool
         && are_replicas(members)
 }
 
-fn body_fits(body: &Body) -> bool
+// The fields of what a switch asks.
+fn request_fits(body: &Body) -> bool
+    requires { is_request body.now ≡ true }
     ensures { result ≡ body_fits body.now }
 {
     match body {
@@ -180,6 +182,40 @@ fn body_fits(body: &Body) -> bool
             key,
             load,
         } => are_u32(*inc, *nonce, 0) && key_fits(key) && load_fits(load),
+        Body::Put {
+            inc,
+            epoch,
+            number,
+            key,
+            delta,
+            load,
+        } => are_u32(*inc, *epoch, *number)
+            && key_fits(key)
+            && delta_fits(delta)
+            && load_fits(load),
+        Body::Snap {
+            inc,
+            epoch,
+            round,
+            key,
+            chunk,
+            chunks,
+            cells,
+        } => are_u32(*inc, *epoch, *round)
+            && key_fits(key)
+            && *chunk < *chunks
+            && *chunks <= 8
+            && cells.as_slice().len() <= 32,
+        _ => unreachable!(),
+    }
+}
+
+// The fields of what the store answers.
+fn answer_fits(body: &Body) -> bool
+    requires { is_answer body.now ≡ true }
+    ensures { result ≡ body_fits body.now }
+{
+    match body {
         Body::Grant {
             inc,
             nonce,
@@ -194,17 +230,6 @@ fn body_fits(body: &Body) -> bool
             key,
             mark,
         } => are_u32(*inc, *nonce, 0) && key_fits(key) && mark_fits(mark),
-        Body::Put {
-            inc,
-            epoch,
-            number,
-            key,
-            delta,
-            load,
-        } => are_u32(*inc, *epoch, *number)
-            && key_fits(key)
-            && delta_fits(delta)
-            && load_fits(load),
         Body::Ack {
             inc,
             epoch,
@@ -213,6 +238,18 @@ fn body_fits(body: &Body) -> bool
             load,
         } => are_u32(*inc, *epoch, *upto) && key_fits(key) && load_fits(load),
         Body::Deny { inc, epoch, key } => are_u32(*inc, *epoch, 0) && key_fits(key),
+        _ => unreachable!(),
+    }
+}
+
+fn body_fits(body: &Body) -> bool
+    ensures { result ≡ body_fits body.now }
+{
+    match body {
+        Body::Ask { .. } | Body::Put { .. } | Body::Snap { .. } => request_fits(body),
+        Body::Grant { .. } | Body::Busy { .. } | Body::Ack { .. } | Body::Deny { .. } => {
+            answer_fits(body)
+        }
         Body::Forward {
             config,
             index,
@@ -222,21 +259,6 @@ fn body_fits(body: &Body) -> bool
         Body::Have { index } => is_u32(*index),
         Body::Echo { of, load } => echoed_fits(of) && load_fits(load),
         Body::Config(config) => config_fits(config),
-        Body::Snap {
-            inc,
-            epoch,
-            round,
-            key,
-            chunk,
-            chunks,
-            cells,
-        } => {
-            are_u32(*inc, *epoch, *round)
-                && key_fits(key)
-                && *chunk < *chunks
-                && *chunks <= 8
-                && cells.as_slice().len() <= 32
-        }
     }
 }
 
