@@ -5,4 +5,4 @@ mod laws;
 mod mark;
 
 pub use laws::programs_are_read;
-pub use mark::{ChainOp, Mark, Piece, Properties, Spelled};
+pub use mark::{Mark, Piece, Properties, Spelled};
