@@ -279,6 +279,42 @@ text_tells text = record { is = text_is; again = text_again } where
 pub text-again : (text : List ℕ) → Again (taken (the_name text)) (λ at. lexeme.Name text ∷ []) (λ at. tt {0})
 text-again text = token-again (text_of text) (λ at. lexeme.Name text) (λ at. tt {0}) (text_tells text)
 
+-- ---- tokens by their lexemes
+
+-- a token with lexemes before and behind it
+pub record Around (a : List Lexeme) (l : Lexeme) (b : List Lexeme) (v : List Token) : Type 0 where
+  pub front : List Token
+  pub token : Token
+  pub behind : List Token
+  pub parted : v ≡ front ++ token ∷ behind
+  pub fronts : lexemes front ≡ a
+  pub here : token.lexeme ≡ l
+  pub behinds : lexemes behind ≡ b
+
+pub around : (a : List Lexeme) (l : Lexeme) (b : List Lexeme) (v : List Token) → lexemes v ≡ a ++ (l ∷ b) → Around a l b v
+around a l b v s =
+    let p : Parts a (l ∷ b) v = parts a (l ∷ b) v s in
+    let q : Parts (l ∷ []) b p.behind = parts (l ∷ []) b p.behind p.behinds in
+    let t : (t : Token) × (q.front ≡ t ∷ []) × (t.lexeme ≡ l) = one_token q.front l q.fronts in
+    record { front = p.front; token = t.0; behind = q.behind; parted = p.is ∙ ap (λ (r : List Token). p.front ++ r) (q.is ∙ ap (λ (r : List Token). r ++ q.behind) t.1); fronts = p.fronts; here = t.2; behinds = q.behinds }
+
+-- the place of a sign
+pub sign_at : (s : Sign) (t : Token) → t.lexeme ≡ the s → is s t ≡ Ok t.at
+sign_at s t h = ap (sign_of s t.at) h ∙ given_self (code s) t.at
+
+-- a token of this lexeme that stands first
+pub record Leads (l : Lexeme) (b : List Lexeme) (v : List Token) : Type 0 where
+  pub token : Token
+  pub behind : List Token
+  pub parted : v ≡ token ∷ behind
+  pub here : token.lexeme ≡ l
+  pub behinds : lexemes behind ≡ b
+
+pub leads : (l : Lexeme) (b : List Lexeme) (v : List Token) → lexemes v ≡ l ∷ b → Leads l b v
+unfolding tail_of head_of
+leads l b [] e = absurd cc
+leads l b (t ∷ v) e = record { token = t; behind = v; parted = refl; here = ap (head_of l) e; behinds = ap tail_of e }
+
 -- ---- signs, and repetition
 
 pub words_step : {Y C : Type 0} {p : List Lexeme → List Lexeme} {f : Y → List Lexeme} {b : Y → C} {K M : Lang Y} (ss : List Sign) → Onward (λ r. p (map the ss ++ r)) f b K M → Onward p f b (words ss K) (words ss M)

@@ -2,3 +2,4 @@ pub mod Again
 pub mod AgainPlain
 pub mod AgainExprs
 pub mod AgainStatements
+pub mod AgainBlocks
