@@ -10,8 +10,9 @@ use Rattle.std.specs.Str.{bytes_eq}
 use Rattle.p4_ast.specs.declared.name.P4Name.{P4Name}
 use Rattle.p4_ast.specs.declared.name.P4Number.{P4Number}
 use Rattle.p4_ast.specs.Bare.{bare_name, bare_number}
-use Rattle.p4_grammar.specs.Forms.{Lang, only, bind, either, taken, many}
+use Rattle.p4_grammar.specs.Forms.{Lang, only, bind, either, taken, many, Spells}
 use Rattle.p4_grammar.specs.Tokens.{test, code, is, sign_of, name, name_of, number, number_of, the_name, text_of, words}
+use Rattle.p4_grammar.proofs.Languages.{Same}
 use Rattle.p4_grammar.proofs.Basics.{tok, given_self, by_sign}
 use Rattle.p4_grammar.proofs.Operands.{same_bytes}
 use Rattle.p4_print.specs.Shared.{the, named, all, separated, maybe, name_tokens}
@@ -395,3 +396,26 @@ module _ {A : Type 0} (V : Lexeme → Type 0) (L : Lang A) (P : A → Type 0) (h
 
 pub says_many : {A : Type 0} {V : Lexeme → Type 0} {L : Lang A} {P : A → Type 0} → Says V L P → Says V (many L) (AllByRecursion P)
 says_many {V = V} {L = L} {P = P} h = record { at = many_at V L P h }
+
+-- ---- other forms of the same language
+
+pub again_same : {A C : Type 0} {L M : Lang A} {f : A → List Lexeme} {b : A → C} → Same L M → Again L f b → Again M f b
+again_same s h = record {
+  back = λ x w d v e. let r : _ = h.back x w (s.back x w d) v e in (r.0, s.to r.0 v r.1, r.2);
+  kept = λ V g x w d a. h.kept V g x w (s.back x w d) a;
+}
+
+-- the same behind two prefixes that are one
+pub onward_as : {Y C : Type 0} {p q : List Lexeme → List Lexeme} {f : Y → List Lexeme} {b : Y → C} {K M O N : Lang Y} → ((r : List Lexeme) → p r ≡ q r) → Same K O → Same M N → Onward q f b O N → Onward p f b K M
+onward_as {p = p} {q = q} same k m h = record {
+  left = λ apart y w d.
+      let l : Left _ _ _ _ y w = h.left (λ x z e. apart x z (same x ∙ e ∙ sym (same z))) y w (k.to y w d) in
+      record { more = l.more; is = l.is ∙ sym (same l.more); back = λ v e. ((l.back v e).0, m.back (l.back v e).0 v (l.back v e).1, (l.back v e).2); kept = l.kept };
+}
+
+-- of any height
+pub any-again : {A C : Type 0} {P : ℕ → Lang A} {f : A → List Lexeme} {b : A → C} → ((k : ℕ) → Again (P k) f b) → Again (Spells P) f b
+any-again h = record {
+  back = λ x w d v e. let r : _ = (h d.0).back x w d.1 v e in (r.0, (d.0, r.1), r.2);
+  kept = λ V s x w d a. (h d.0).kept V s x w d.1 a;
+}

@@ -3,3 +3,4 @@ pub mod AgainPlain
 pub mod AgainExprs
 pub mod AgainStatements
 pub mod AgainBlocks
+pub mod AgainDeclarations
