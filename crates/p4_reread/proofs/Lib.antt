@@ -4,3 +4,8 @@ pub mod AgainExprs
 pub mod AgainStatements
 pub mod AgainBlocks
 pub mod AgainDeclarations
+pub mod LexFound
+pub mod LexDigits
+pub mod LexWords
+pub mod LexSigns
+pub mod LexAgain

@@ -1,4 +1,7 @@
 //! Canonical text read again: its tokens, and the tree that they spell.
 #![tactic(auto)]
 
+mod lexemes;
 mod trees;
+
+pub use lexemes::{canonical_tokens_are_read_again, tokens_are_lexemes};
