@@ -4,6 +4,8 @@ pub mod AgainExprs
 pub mod AgainStatements
 pub mod AgainBlocks
 pub mod AgainDeclarations
+pub mod AgainTables
+pub mod AgainPrograms
 pub mod LexFound
 pub mod LexDigits
 pub mod LexWords
