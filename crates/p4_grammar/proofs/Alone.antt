@@ -1,22 +1,19 @@
 -- A value with the mark of a special spelling is spelled so.
-use Rattle.std.proofs.Common.{◌≡◌, ℕ, zero, suc, Bool, true, false, cond, List, [], ◌∷◌, ◌++◌, Result, Ok, Err, Option, Some, None, refl, sym, ap, subst, ◌∙◌, append_assoc, append-nil, inl, inr, ◌⊎◌}
+use Rattle.std.proofs.Common.{◌≡◌, ℕ, zero, suc, Bool, true, false, cond, List, [], ◌∷◌, ◌++◌, Result, refl, sym, ap, subst, ◌∙◌, append-nil, inl, inr, ◌⊎◌}
 use Rattle.std.specs.Prelude.{codes}
 use Rattle.std.specs.Str.{bytes_eq}
 use Rattle.p4_lex.specs.declared.token.Token.{Token}
 use Rattle.p4_lex.specs.declared.token.Sign.TheVariants as sign
 use Rattle.p4_ast.specs.declared.name.P4Name.{P4Name}
 use Rattle.p4_ast.specs.declared.declaration.P4Type.{P4Type}
-use Rattle.p4_ast.specs.declared.expression.P4Expr.{P4Expr}
 use Rattle.p4_ast.specs.declared.expression.P4BinaryOp.TheVariants as binary_op
 use Rattle.p4_grammar.specs.declared.mark.Mark.{Mark}
 use Rattle.p4_grammar.specs.declared.mark.Mark.TheVariants as mark
 use Rattle.p4_grammar.specs.declared.mark.Spelled.{Spelled}
-use Rattle.p4_grammar.specs.Forms.{Lang, none, only, bind, either, taken, many, chain}
-use Rattle.p4_grammar.specs.Tokens.{is, name, name_of, number, the_name, words, called}
-use Rattle.p4_grammar.specs.Values.{Env, has, later, of_cast, of_path, of_parens, path_value, valid_value, number_value, true_value, false_value, parens_value, slice_value, cast_value, unary_value, unary_op, binary, chained, again, this, sum_op, chain_op, compare_op, choice_value}
-use Rattle.p4_grammar.specs.Trees.{alone}
-use Rattle.p4_grammar.specs.GrammarExpressions.{path, names, slice, sliced, called_path, primary, cast_front, unary_of, sum_of, chain_of, compare_of, and_of, or_of, choice_of, unary, expr_}
-use Rattle.p4_grammar.proofs.Languages.{Same}
+use Rattle.p4_grammar.specs.Forms.{Lang, only, bind, either, taken, chain}
+use Rattle.p4_grammar.specs.Tokens.{is, name, the_name, words}
+use Rattle.p4_grammar.specs.Values.{Env, has, later, of_cast, of_path, of_parens, path_value, valid_value, number_value, true_value, false_value, parens_value, slice_value, cast_value, unary_value, binary, this, sum_op, compare_op, choice_value}
+use Rattle.p4_grammar.specs.GrammarExpressions.{path, names, slice, sliced, primary, cast_front, unary_of, sum_of, chain_of, compare_of, and_of, or_of, choice_of, unary, expr_}
 use Rattle.p4_grammar.proofs.Called.{name_back}
 
 -- name "." "read"
@@ -90,8 +87,8 @@ sum_so env k U h = bind_chain env k sum_op binary (λ o x y. refl) U U h
 compare_so : (env : Env) (k : ℕ) (U : Lang Spelled) → Every env U → Every env (compare_of k U)
 unfolding compare_of chain_of
 compare_so env k U h v u (inl d) = option_so env (sum_of k U) (λ x. bind (taken compare_op) λ o. bind (sum_of k U) λ y. only (binary o x y)) (sum_so env k U h) (λ x z w c. (c.5.0.mark, mark_is z (binary c.0 x c.5.0) c.5.5.0)) v u d
-compare_so env k U h v u (inr (x, a, b, e, d, (o, a2, b2, e2, t, (y, a3, b3, e3, d3, c)))) = elim (chain_end k (λ z. again o) chained (λ p r s. refl) U (chained o x y) v b3 c) [
-  | inl s ↦ late env v.mark u (y.mark, mark_is v (chained o x y) s.0)
+compare_so env k U h v u (inr (x, a, b, e, d, (o, a2, b2, e2, t, (y, a3, b3, e3, d3, c)))) = elim (chain_end k (λ z. this o) binary (λ p r s. refl) U (binary o x y) v b3 c) [
+  | inl s ↦ late env v.mark u (y.mark, mark_is v (binary o x y) s.0)
   | inr l ↦ late env v.mark u l
 ]
 

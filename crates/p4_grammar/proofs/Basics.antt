@@ -1,7 +1,6 @@
 -- Readers of single tokens fit; what a language's words begin with; and which token passes which test.
-use Rattle.std.proofs.Common.{◌≡◌, ℕ, zero, suc, ◌≤◌, Bool, true, false, cond, nat_eq, List, [], ◌∷◌, ◌++◌, length, Result, Ok, Err, Option, Some, None, refl, sym, ap, subst, ◌∙◌, append_assoc, arith, inl, inr, ◌⊎◌}
+use Rattle.std.proofs.Common.{◌≡◌, ℕ, zero, suc, ◌≤◌, Bool, true, false, nat_eq, List, [], ◌∷◌, ◌++◌, length, Result, Ok, Option, None, refl, sym, ap, ◌∙◌, append_assoc, arith, inl, inr, ◌⊎◌}
 use Rattle.std.proofs.lemmas.Bool.{eqb-true, eq-eqb}
-use Rattle.std.specs.Str.{bytes_eq}
 use Rattle.p4_lex.specs.declared.token.Token.{Token}
 use Rattle.p4_lex.specs.declared.token.Sign.{Sign}
 use Rattle.p4_lex.specs.declared.token.Sign.TheVariants as sign
@@ -9,10 +8,10 @@ use Rattle.p4_lex.specs.declared.token.Lexeme.{Lexeme}
 use Rattle.p4_lex.specs.declared.token.Lexeme.TheVariants as lexeme
 use Rattle.p4_ast.specs.declared.name.P4Name.{P4Name}
 use Rattle.p4_ast.specs.declared.name.P4Number.{P4Number}
-use Rattle.p4_grammar.specs.Forms.{Lang, none, only, bind, either, taken, Reader, done_at, bind_at, taken_at, hand, either_at, is_given, Spells, many, many_at}
-use Rattle.p4_grammar.specs.Tokens.{test, code, is, sign_of, name, name_of, number, number_of, the_name, text_of, words, words_at, in_hand, but, is_name}
-use Rattle.p4_grammar.proofs.Languages.{Same, same, flip, same_bind, same_either, assoc, dist, factor, bind_only, swap, turn, same_words, words_bind, factor_words, ◌then◌}
-use Rattle.p4_grammar.proofs.Forms.{IsEnd, Reads, bind-reads, taken-reads, done-reads, either-reads, fits, many-reads}
+use Rattle.p4_grammar.specs.Forms.{Lang, bind, either, taken, Reader, bind_at, taken_at, hand, either_at, Spells, many, many_at}
+use Rattle.p4_grammar.specs.Tokens.{test, code, is, sign_of, name, name_of, number, number_of, the_name, text_of, words, words_at}
+use Rattle.p4_grammar.proofs.Languages.{Same}
+use Rattle.p4_grammar.proofs.Forms.{IsEnd, Reads, bind-reads, taken-reads, either-reads, fits, many-reads}
 
 abbrev pub free : {A : Type 0} → A → Token → Bool
 free x a = false
@@ -134,7 +133,7 @@ back s = refl
 sign_is : (s r : Sign) (at x : ℕ) → test (nat_eq (code s) (code r)) at ≡ Ok x → r ≡ s
 sign_is s r at x e = sym (back r) ∙ ap (λ n. nth n signs) (sym (eqb-true (code s) (code r) (given_yes (nat_eq (code s) (code r)) at x e))) ∙ back s
 
-lexeme_is : (s : Sign) (at x : ℕ) (l : Lexeme) → sign_of s at l ≡ Ok x → l ≡ lexeme.Sign s
+pub lexeme_is : (s : Sign) (at x : ℕ) (l : Lexeme) → sign_of s at l ≡ Ok x → l ≡ lexeme.Sign s
 lexeme_is s at x (lexeme.Sign r) e = ap lexeme.Sign (sign_is s r at x e)
 lexeme_is s at x (lexeme.Name text) e = absurd cc
 lexeme_is s at x (lexeme.Number value width) e = absurd cc

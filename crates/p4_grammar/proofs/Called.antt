@@ -1,14 +1,13 @@
 -- A path and a last name of a given text, read as one path.
-use Rattle.std.proofs.Common.{◌≡◌, ℕ, Bool, true, false, cond, List, [], ◌∷◌, ◌++◌, Result, Ok, Err, Option, Some, None, refl, sym, ap, subst, ◌∙◌, append_assoc, append-nil}
+use Rattle.std.proofs.Common.{◌≡◌, ℕ, Bool, true, false, cond, List, [], ◌∷◌, ◌++◌, Result, Ok, Option, Some, None, refl, sym, ap, subst, ◌∙◌, append_assoc, append-nil}
 use Rattle.std.specs.Str.{bytes_eq}
 use Rattle.p4_lex.specs.declared.token.Token.{Token}
 use Rattle.p4_lex.specs.declared.token.Sign.TheVariants as sign
 use Rattle.p4_lex.specs.declared.token.Lexeme.{Lexeme}
 use Rattle.p4_lex.specs.declared.token.Lexeme.TheVariants as lexeme
 use Rattle.p4_ast.specs.declared.name.P4Name.{P4Name}
-use Rattle.p4_grammar.specs.Forms.{Lang, only, bind, taken, many}
-use Rattle.p4_grammar.specs.Tokens.{test, is, name, name_of, the_name, text_of, words, called, before}
-use Rattle.p4_grammar.specs.Trees.{alone}
+use Rattle.p4_grammar.specs.Forms.{Lang, bind, taken, many}
+use Rattle.p4_grammar.specs.Tokens.{test, name, name_of, the_name, text_of, words, called, before}
 use Rattle.p4_grammar.specs.GrammarExpressions.{names, path}
 use Rattle.p4_grammar.proofs.Languages.{Same}
 
@@ -103,7 +102,7 @@ module _ {A : Type 0} (text : List ℕ) (K : List P4Name → Lang A) where
       let tail : u2 ≡ a1 = e2 ∙ ap (λ (q : List Token). a1 ++ q) no_rest ∙ append-nil a1 in
       let rest : v ≡ (d1 ++ t1) ++ t2 = e3 ∙ ap (λ (q : List Token). d1 ++ q) e4 ∙ sym (append_assoc d1 t1 t2) in
       let whole : w ≡ u1 ++ ((a1 ++ (d1 ++ t1)) ++ t2) =
-          e ∙ ap (λ (q : List Token). q ++ v) (e1 ∙ ap (λ (q : List Token). u1 ++ q) tail) ∙ append_assoc u1 a1 v ∙ ap (λ (q : List Token). u1 ++ (a1 ++ q)) rest ∙ ap (λ (q : List Token). u1 ++ q) (sym (append_assoc a1 (d1 ++ t1) t2)) in
+      e ∙ ap (λ (q : List Token). q ++ v) (e1 ∙ ap (λ (q : List Token). u1 ++ q) tail) ∙ append_assoc u1 a1 v ∙ ap (λ (q : List Token). u1 ++ (a1 ++ q)) rest ∙ ap (λ (q : List Token). u1 ++ q) (sym (append_assoc a1 (d1 ++ t1) t2)) in
       (x, u1, (a1 ++ (d1 ++ t1)) ++ t2, whole, nm, (ps ++ there.0 ∷ [], a1 ++ (d1 ++ t1), t2, refl, list, (x ∷ ps, called_snoc text x ps there.0 there.2, subst (λ (q : List P4Name). K q y t2) is_p k)))
 
   back : (y : A) (w : List Token) → bind (taken name) (λ x. bind names λ xs. calls text x xs K) y w → bind path (λ p. words (sign.Dot ∷ []) (bind (taken (the_name text)) λ at. K p)) y w
@@ -114,9 +113,14 @@ module _ {A : Type 0} (text : List ℕ) (K : List P4Name → Lang A) where
       let tok = last.5.0 in
       let gives : the_name text tok ≡ Ok tok.at = name_back text tok.at r.last tok.lexeme last.5.2 r.text_is in
       let whole : w ≡ (u1 ++ r.before_last) ++ (r.behind ++ v2) =
-          e ∙ ap (λ (q : List Token). u1 ++ q) (e2 ∙ ap (λ (q : List Token). q ++ v2) r.parts ∙ append_assoc r.before_last r.behind v2) ∙ sym (append_assoc u1 r.before_last (r.behind ++ v2)) in
-      (x ∷ r.front, u1 ++ r.before_last, r.behind ++ v2, whole, (x, u1, r.before_last, refl, nm, (r.front, r.before_last, [], sym (append-nil r.before_last), r.fronts, (refl, refl))),
-        (last.0, last.1, last.2 ++ v2, ap (λ (q : List Token). q ++ v2) last.3 ∙ append_assoc last.1 last.2 v2, last.4, (tok.at, last.2, v2, refl, (tok, last.5.1, gives), subst (λ (q : List P4Name). K q y v2) r.is k)))
+      e ∙ ap (λ (q : List Token). u1 ++ q) (e2 ∙ ap (λ (q : List Token). q ++ v2) r.parts ∙ append_assoc r.before_last r.behind v2) ∙ sym (append_assoc u1 r.before_last (r.behind ++ v2)) in (
+        x ∷ r.front,
+        u1 ++ r.before_last,
+        r.behind ++ v2,
+        whole,
+        (x, u1, r.before_last, refl, nm, (r.front, r.before_last, [], sym (append-nil r.before_last), r.fronts, (refl, refl))),
+        (last.0, last.1, last.2 ++ v2, ap (λ (q : List Token). q ++ v2) last.3 ∙ append_assoc last.1 last.2 v2, last.4, (tok.at, last.2, v2, refl, (tok, last.5.1, gives), subst (λ (q : List P4Name). K q y v2) r.is k)),
+      )
 
   pub dotted-same : Same (bind path (λ p. words (sign.Dot ∷ []) (bind (taken (the_name text)) λ at. K p))) (bind (taken name) (λ x. bind names λ xs. calls text x xs K))
   dotted-same = record { to = to; back = back }

@@ -1,31 +1,22 @@
 -- The readers of types, paths and operands fit.
-use Rattle.std.proofs.Common.{◌≡◌, ℕ, zero, suc, ◌≤◌, Bool, true, false, cond, nat_le, List, [], ◌∷◌, ◌++◌, length, Result, Ok, Err, Option, Some, None, refl, sym, ap, subst, ◌∙◌, append_assoc, arith, inl, inr, ◌⊎◌}
+use Rattle.std.proofs.Common.{◌≡◌, ℕ, Bool, true, false, List, [], ◌∷◌, ◌++◌, Option, Some, None, refl, sym, subst, inl, inr}
 use Rattle.std.specs.Prelude.{codes}
-use Rattle.std.specs.Str.{bytes_eq}
 use Rattle.p4_lex.specs.declared.token.Token.{Token}
-use Rattle.p4_lex.specs.declared.token.Sign.{Sign}
 use Rattle.p4_lex.specs.declared.token.Sign.TheVariants as sign
-use Rattle.p4_lex.specs.declared.token.Lexeme.{Lexeme}
 use Rattle.p4_lex.specs.declared.token.Lexeme.TheVariants as lexeme
 use Rattle.p4_ast.specs.declared.name.P4Name.{P4Name}
-use Rattle.p4_ast.specs.declared.name.P4Slice.{P4Slice}
-use Rattle.p4_ast.specs.declared.declaration.P4Type.{P4Type}
 use Rattle.p4_ast.specs.declared.declaration.P4Type.TheVariants as type
-use Rattle.p4_ast.specs.declared.expression.P4UnaryOp.{P4UnaryOp}
-use Rattle.p4_ast.specs.declared.expression.P4UnaryOp.TheVariants as op
 use Rattle.p4_ast.specs.declared.expression.P4Expr.{P4Expr}
-use Rattle.p4_grammar.specs.declared.mark.Mark.{Mark}
 use Rattle.p4_grammar.specs.declared.mark.Mark.TheVariants as mark
 use Rattle.p4_grammar.specs.declared.mark.Spelled.{Spelled}
-use Rattle.p4_grammar.specs.Forms.{Lang, none, only, bind, either, taken, many, Reader, done_at, bind_at, taken_at, hand, either_at, many_at, is_given, Spells}
-use Rattle.p4_grammar.specs.Tokens.{test, is, sign_of, name, number, words, words_at, in_hand, one_of, is_name, called}
-use Rattle.p4_grammar.specs.Values.{Env, later, of_cast, of_path, is_bare, cast_by, path_value, valid_value, number_value, true_value, false_value, parens_value, slice_value, cast_value, unary_value, named_type, unary_lexeme, unary_op, begins_lexeme, begins_operand}
+use Rattle.p4_grammar.specs.Forms.{Lang, only, bind, either, taken, Reader, done_at, hand, either_at}
+use Rattle.p4_grammar.specs.Tokens.{is, name, number, words, in_hand, called}
+use Rattle.p4_grammar.specs.Values.{Env, is_bare, cast_by, path_value, valid_value, number_value, true_value, false_value, parens_value, slice_value, cast_value, unary_value, named_type, unary_op}
 use Rattle.p4_grammar.specs.GrammarExpressions.{bit_type, bool_type, std_type, word_type, name_type, type_, names, path, slice, sliced}
-use Rattle.p4_grammar.specs.ReadingExpressions.{bit_type_at, bool_type_at, std_type_at, word_type_at, name_type_at, type_at, names_at, path_at, slice_at, sliced_at, asked_at, named_at, plain_at, parens_at, cast_at, closed_at, open_at, unary_of_at, word_type as word_test}
-use Rattle.p4_grammar.proofs.Languages.{Same, same, ◌then◌}
-use Rattle.p4_grammar.proofs.Forms.{IsEnd, Reads, bind-reads, taken-reads, done-reads, either-reads, after-reads, fewer}
-use Rattle.p4_grammar.proofs.Basics.{free, is_free, tok, then-reads, is_self, is-reads, name-reads, number-reads, words-reads, sign-reads, named-reads, numbered-reads, Begins, begins_taken, begins_bind, begins_either, choose-reads, said, by_sign, by_name, by_number, sign_begins, name_begins, number_begins, some_by, list-reads, behind-reads}
-use Rattle.p4_grammar.proofs.Facts.{V, goes_on, is_read, by_later, by_cast, more_slice, more_dot, more_open, bare_operand, ends_all}
+use Rattle.p4_grammar.specs.ReadingExpressions.{bit_type_at, bool_type_at, std_type_at, word_type_at, name_type_at, type_at, names_at, path_at, slice_at, sliced_at, word_type as word_test}
+use Rattle.p4_grammar.proofs.Forms.{IsEnd, Reads, bind-reads, done-reads, either-reads}
+use Rattle.p4_grammar.proofs.Basics.{free, tok, then-reads, name-reads, words-reads, sign-reads, named-reads, numbered-reads, Begins, begins_bind, begins_either, choose-reads, sign_begins, name_begins, list-reads}
+use Rattle.p4_grammar.proofs.Facts.{V, is_read, more_slice}
 
 -- ---- types
 

@@ -1,5 +1,5 @@
 -- The grammar's operands and the language that their reader follows; expressions fit.
-use Rattle.std.proofs.Common.{◌≡◌, ℕ, zero, suc, Bool, true, false, cond, List, [], ◌∷◌, ◌++◌, Result, Ok, Err, Option, Some, None, refl, sym, ap, subst, ◌∙◌, append_assoc, append-nil, inl, inr, ◌⊎◌}
+use Rattle.std.proofs.Common.{◌≡◌, ℕ, zero, suc, Bool, true, false, cond, List, [], ◌∷◌, ◌++◌, Ok, Option, Some, None, refl, sym, ap, subst, ◌∙◌, append-nil, inl, inr, ◌⊎◌}
 use Rattle.std.specs.Prelude.{codes}
 use Rattle.p4_lex.specs.declared.token.Token.{Token}
 use Rattle.p4_lex.specs.declared.token.Sign.TheVariants as sign
@@ -7,25 +7,24 @@ use Rattle.p4_lex.specs.declared.token.Lexeme.{Lexeme}
 use Rattle.p4_lex.specs.declared.token.Lexeme.TheVariants as lexeme
 use Rattle.p4_ast.specs.declared.name.P4Name.{P4Name}
 use Rattle.p4_ast.specs.declared.declaration.P4Type.{P4Type}
-use Rattle.p4_ast.specs.declared.declaration.P4Type.TheVariants as type
 use Rattle.p4_ast.specs.declared.expression.P4UnaryOp.{P4UnaryOp}
 use Rattle.p4_ast.specs.declared.expression.P4Expr.{P4Expr}
 use Rattle.p4_grammar.specs.declared.mark.Mark.{Mark}
 use Rattle.p4_grammar.specs.declared.mark.Mark.TheVariants as mark
 use Rattle.p4_grammar.specs.declared.mark.Spelled.{Spelled}
-use Rattle.p4_grammar.specs.Forms.{Lang, none, only, bind, either, taken, many, chain, Spells}
-use Rattle.p4_grammar.specs.Tokens.{is, name, name_of, number, the_name, words, called}
-use Rattle.p4_grammar.specs.Values.{Env, has, of_path, of_parens, cast_by, path_value, valid_value, number_value, true_value, false_value, parens_value, cast_value, unary_value, unary_lexeme, unary_op, named_type, binary, sum_op, this, begins_lexeme, begins_operand}
-use Rattle.p4_grammar.specs.GrammarExpressions.{bit_type, bool_type, std_type, word_type, name_type, type_, path, names, slice, sliced, called_path, primary, casts, cast_front, unary_of, sum_of, chain_of, compare_of, and_of, or_of, choice_of, unary, expr_, expr}
+use Rattle.p4_grammar.specs.Forms.{Lang, none, only, bind, either, taken}
+use Rattle.p4_grammar.specs.Tokens.{is, name, number, the_name, words, called}
+use Rattle.p4_grammar.specs.Values.{Env, has, of_parens, cast_by, path_value, valid_value, number_value, true_value, false_value, parens_value, cast_value, unary_lexeme, named_type, begins_lexeme, begins_operand}
+use Rattle.p4_grammar.specs.GrammarExpressions.{bit_type, bool_type, std_type, word_type, name_type, type_, path, names, sliced, called_path, primary, casts, cast_front, unary_of, sum_of, chain_of, compare_of, and_of, or_of, choice_of, unary, expr_, expr}
 use Rattle.p4_grammar.specs.ReadingExpressions.{unary_of_at, unary_at, expr_at}
-use Rattle.p4_grammar.proofs.Languages.{Same, same, flip, same_bind, same_either, assoc, dist, factor, bind_only, same_words, words_bind, ◌then◌}
+use Rattle.p4_grammar.proofs.Languages.{Same, same, same_bind, same_either, assoc, dist, factor, bind_only, same_words, words_bind, ◌then◌}
 use Rattle.p4_grammar.proofs.Forms.{Reads, fits, stuck-reads}
-use Rattle.p4_grammar.proofs.Basics.{tok, by_sign, by_name, Begins, begins_taken, begins_bind, begins_either, begins_any, sign_begins, name_begins, number_begins, any-reads}
+use Rattle.p4_grammar.proofs.Basics.{tok, Begins, begins_taken, begins_bind, begins_either, begins_any, sign_begins, name_begins, number_begins, any-reads}
 use Rattle.p4_grammar.proofs.Facts.{V}
 use Rattle.p4_grammar.proofs.Expressions.{asked, named, plain, parens, cast_, closed, open_, signed, name_led, funary}
 use Rattle.p4_grammar.proofs.Operands.{funary-reads}
 use Rattle.p4_grammar.proofs.Levels.{expr_of-reads}
-use Rattle.p4_grammar.proofs.Called.{calls, dotted-same}
+use Rattle.p4_grammar.proofs.Called.{dotted-same}
 use Rattle.p4_grammar.proofs.Alone.{So, expr_so}
 
 -- ---- what an expression begins with
@@ -254,7 +253,7 @@ open_up k env y w (at, a, b, e, d, inr (x, a2, b2, e2, d2, (t3, a3, b3, e3, d3, 
 
 -- ---- operands
 
-down : (k : ℕ) (env : Env) (y : Spelled) (w : List Token) → unary_of env (unary k env) (expr_ k env) y w → funary env (unary k env) (expr_ k env) y w
+pub down : (k : ℕ) (env : Env) (y : Spelled) (w : List Token) → unary_of env (unary k env) (expr_ k env) y w → funary env (unary k env) (expr_ k env) y w
 unfolding unary_of funary signed split_primary plain
 down k env y w (inl d) = inl d
 down k env y w (inr (inl d)) = inr (inl (open_down k env y w (inl ((casting-same env (λ c. bind (unary k env) λ x. only (cast_value c.0 c.1 x))).to y w d))))
@@ -281,7 +280,7 @@ unfolding unary_of split_primary
 up_open k env y w (inl d) = inr (inl ((casting-same env (λ c. bind (unary k env) λ x. only (cast_value c.0 c.1 x))).back y w d))
 up_open k env y w (inr d) = up_parts k env y w (inr (inr (inr (inr (inr d)))))
 
-up : (k : ℕ) (env : Env) (y : Spelled) (w : List Token) → funary env (unary k env) (expr_ k env) y w → unary_of env (unary k env) (expr_ k env) y w
+pub up : (k : ℕ) (env : Env) (y : Spelled) (w : List Token) → funary env (unary k env) (expr_ k env) y w → unary_of env (unary k env) (expr_ k env) y w
 unfolding unary_of funary signed plain split_primary
 up k env y w (inl d) = inl d
 up k env y w (inr (inl d)) = up_open k env y w (open_up k env y w d)

@@ -3,7 +3,7 @@ use Rattle.std.proofs.Common.{◌≡◌, ℕ, zero, suc, ◌+◌, ◌<◌, ◌�
 use Rattle.std.proofs.lemmas.List.{length-append, append_cancel_left, append_cancel_right}
 use Rattle.p4_lex.specs.declared.token.Token.{Token}
 use Rattle.p4_lex.specs.declared.token.Lexeme.TheVariants as lexeme
-use Rattle.p4_grammar.specs.Forms.{Lang, none, only, bind, either, taken, Reader, ◌>>=◌, done_at, bind_at, given, taken_at, hand, either_at, many, chain, many_at, is_given, chain_at, Spells, Refused, IsFault, ended, all_at}
+use Rattle.p4_grammar.specs.Forms.{Lang, none, only, bind, either, taken, Reader, ◌>>=◌, done_at, bind_at, given, taken_at, hand, either_at, many, chain, many_at, is_given, chain_at, Refused, IsFault, ended, all_at}
 
 -- no token of the test stands in front
 abbrev pub IsEnd : (Token → Bool) → List Token → Type 0
@@ -397,7 +397,7 @@ ended_err : {A : Type 0} (x : A) (r d : List Token) → ended x r ≡ Err d → 
 ended_err x [] d e = absurd cc
 ended_err x (a ∷ r) d e = (cc, λ no. absurd cc)
 
-refused_by : {A : Type 0} (P : ℕ → Lang A) (u r : List Token) → ((x : A) (w s : List Token) → Spells P x w → w ≡ u ++ s → SameHead r s → ⊥) → Refused P u r
+refused_by : {A : Type 0} (P : Lang A) (u r : List Token) → ((x : A) (w s : List Token) → P x w → w ≡ u ++ s → SameHead r s → ⊥) → Refused P u r
 refused_by P u [] never = tt
 refused_by P u (a ∷ r) never = λ b. never b.0 ((u ++ a ∷ []) ++ b.1) (a ∷ b.1) b.2 (append_assoc u (a ∷ []) b.1) refl
 
@@ -406,52 +406,52 @@ nothing_left [] t same e never = never refl
 nothing_left (a ∷ r) [] same e never = same
 nothing_left (a ∷ r) (b ∷ t) same e never = absurd cc
 
-module _ {A : Type 0} (P : ℕ → Lang A) (E : A → Token → Bool) (p : Reader A) (w : List Token) (n : ℕ) (long : length w < n) (h : (k : ℕ) → Reads n (P k) (P (suc n)) E p) where
+module _ {A : Type 0} (P : Lang A) (E : A → Token → Bool) (p : Reader A) (w : List Token) (n : ℕ) (long : length w < n) (h : Reads n P P E p) where
   short : (u r : List Token) → w ≡ u ++ r → length u < n
   short u r e = omega (arith, ap length e, length-append u r)
 
   -- what a value that is read excludes
-  one_value : (x : A) (u r : List Token) → p w ≡ Ok (x, r) → w ≡ u ++ r → (y : A) (v s : List Token) → Spells P y v → v ≡ u ++ s → SameHead r s → (y ≡ x) × (v ≡ u)
-  one_value x u r e front y v s d is same = (h d.0).unique u r x (subst (λ (q : List Token). p q ≡ Ok (x, r)) front e) (short u r front) y v [] s d.1 tt (append-nil v ∙ is) same
+  one_value : (x : A) (u r : List Token) → p w ≡ Ok (x, r) → w ≡ u ++ r → (y : A) (v s : List Token) → P y v → v ≡ u ++ s → SameHead r s → (y ≡ x) × (v ≡ u)
+  one_value x u r e front y v s d is same = h.unique u r x (subst (λ (q : List Token). p q ≡ Ok (x, r)) front e) (short u r front) y v [] s d tt (append-nil v ∙ is) same
 
-  no_value : (u r : List Token) → p w ≡ Err r → w ≡ u ++ r → (y : A) (v s : List Token) → Spells P y v → v ≡ u ++ s → SameHead r s → ⊥
-  no_value u r e front y v s d is same = (h d.0).dead u r (subst (λ (q : List Token). p q ≡ Err r) front e) (short u r front) y v [] s d.1 tt (append-nil v ∙ is) same
+  no_value : (u r : List Token) → p w ≡ Err r → w ≡ u ++ r → (y : A) (v s : List Token) → P y v → v ≡ u ++ s → SameHead r s → ⊥
+  no_value u r e front y v s d is same = h.dead u r (subst (λ (q : List Token). p q ≡ Err r) front e) (short u r front) y v [] s d tt (append-nil v ∙ is) same
 
-  pub whole_sound : (x : A) → all_at p w ≡ Ok x → Spells P x w
+  pub whole_sound : (x : A) → all_at p w ≡ Ok x → P x w
   whole_sound x e =
       let s = bind_ok (p w) (λ q. ended q.0 q.1) x e in
       let d = ended_ok s.0.0 x s.0.1 s.2 in
-      let g = (h 0).got w s.0.1 s.0.0 s.1 in
+      let g = h.got w s.0.1 s.0.0 s.1 in
       let all : w ≡ g.0 = g.1 ∙ ap (λ (q : List Token). g.0 ++ q) d.1 ∙ append-nil g.0 in
-      (suc n, subst (λ (q : List Token). P (suc n) x q) (sym all) (subst (λ (q : A). P (suc n) q g.0) d.0 g.2))
+      subst (λ (q : List Token). P x q) (sym all) (subst (λ (q : A). P q g.0) d.0 g.2)
 
-  complete : (r : Result (A × List Token) (List Token)) → p w ≡ r → (x : A) → Spells P x w → (r >>= λ q. ended q.0 q.1) ≡ Ok x
+  complete : (r : Result (A × List Token) (List Token)) → p w ≡ r → (x : A) → P x w → (r >>= λ q. ended q.0 q.1) ≡ Ok x
   complete (Ok q) e x d =
-      let g = (h 0).got w q.1 q.0 e in
+      let g = h.got w q.1 q.0 e in
       let o = one_value q.0 g.0 q.1 e g.1 x w q.1 d g.1 (same_self q.1) in
       let rest : q.1 ≡ [] = append_cancel_left g.0 q.1 [] (sym g.1 ∙ o.1 ∙ sym (append-nil g.0)) in
       rw (rest, o.0) refl
   complete (Err r) e x d =
-      let g = (h 0).stopped w r e in
+      let g = h.stopped w r e in
       absurd (no_value g.0 r e g.1 x w r d g.1 (same_self r))
 
-  pub whole_complete : (x : A) → Spells P x w → all_at p w ≡ Ok x
+  pub whole_complete : (x : A) → P x w → all_at p w ≡ Ok x
   whole_complete x d = complete (p w) refl x d
 
   pub whole_fault : (r : List Token) → all_at p w ≡ Err r → IsFault P w r
   whole_fault r e = elim (bind_err (p w) (λ q. ended q.0 q.1) r e) [
     | inl a ↦
-        let g = (h 0).stopped w r a in
-        let v = (h 0).viable g.0 r (subst (λ (q : List Token). p q ≡ Err r) g.1 a) (short g.0 r g.1) in
-        (g.0, g.1, (v.0, v.1, (suc n, v.2)), refused_by P g.0 r (λ x v s. no_value g.0 r a g.1 x v s), λ x d. no_value g.0 r a g.1 x w r d g.1 (same_self r))
+        let g = h.stopped w r a in
+        let v = h.viable g.0 r (subst (λ (q : List Token). p q ≡ Err r) g.1 a) (short g.0 r g.1) in
+        (g.0, g.1, (v.0, v.1, v.2), refused_by P g.0 r (λ x v s. no_value g.0 r a g.1 x v s), λ x d. no_value g.0 r a g.1 x w r d g.1 (same_self r))
     | inr s ↦
         let d = ended_err s.0.0 s.0.1 r s.2 in
-        let g = (h 0).got w s.0.1 s.0.0 s.1 in
+        let g = h.got w s.0.1 s.0.0 s.1 in
         let front : w ≡ g.0 ++ r = g.1 ∙ ap (λ (q : List Token). g.0 ++ q) d.0 in
         let ran : p w ≡ Ok (s.0.0, r) = s.1 ∙ ap (λ (q : List Token). done_at s.0.0 q) d.0 in
-        let there : (x : A) (v t : List Token) → Spells P x v → v ≡ g.0 ++ t → SameHead r t → ⊥ = λ x v t sp is same.
+        let there : (x : A) (v t : List Token) → P x v → v ≡ g.0 ++ t → SameHead r t → ⊥ = λ x v t sp is same.
         let o = one_value s.0.0 g.0 r ran front x v t sp is same in
         let none_left : t ≡ [] = append_cancel_left g.0 t [] (sym is ∙ o.1 ∙ sym (append-nil g.0)) in
         nothing_left r t same none_left (λ z. d.1 (d.0 ∙ z)) in
-        (g.0, front, (s.0.0, [], (suc n, subst (λ (q : List Token). P (suc n) s.0.0 q) (sym (append-nil g.0)) g.2)), refused_by P g.0 r there, λ x sp. there x w r sp front (same_self r))
+        (g.0, front, (s.0.0, [], subst (λ (q : List Token). P s.0.0 q) (sym (append-nil g.0)) g.2), refused_by P g.0 r there, λ x sp. there x w r sp front (same_self r))
   ]

@@ -1,26 +1,22 @@
 -- The readers of operators, level by level, fit.
-use Rattle.std.proofs.Common.{◌≡◌, ℕ, zero, suc, ◌≤◌, Bool, true, false, cond, List, [], ◌∷◌, ◌++◌, length, Result, Ok, Err, refl, sym, ap, subst, ◌∙◌, append_assoc, arith, inl, inr, ◌⊎◌}
+use Rattle.std.proofs.Common.{◌≡◌, ℕ, zero, suc, Bool, true, false, List, [], ◌∷◌, ◌++◌, Result, Ok, refl, sym, ap, subst, ◌∙◌, append_assoc, arith, inl, inr, Err}
 use Rattle.p4_lex.specs.declared.token.Token.{Token}
-use Rattle.p4_lex.specs.declared.token.Sign.{Sign}
 use Rattle.p4_lex.specs.declared.token.Sign.TheVariants as sign
 use Rattle.p4_lex.specs.declared.token.Lexeme.{Lexeme}
 use Rattle.p4_lex.specs.declared.token.Lexeme.TheVariants as lexeme
 use Rattle.p4_ast.specs.declared.expression.P4BinaryOp.{P4BinaryOp}
 use Rattle.p4_ast.specs.declared.expression.P4BinaryOp.TheVariants as binary_op
-use Rattle.p4_grammar.specs.declared.mark.Mark.{Mark}
 use Rattle.p4_grammar.specs.declared.mark.Spelled.{Spelled}
-use Rattle.p4_grammar.specs.declared.mark.ChainOp.{ChainOp}
-use Rattle.p4_grammar.specs.declared.mark.ChainOp.TheVariants as chains
-use Rattle.p4_grammar.specs.Forms.{Lang, none, only, bind, either, taken, Reader, done_at, bind_at, taken_at, hand, either_at, is_given, chain, chain_at}
-use Rattle.p4_grammar.specs.Tokens.{test, is, words, words_at, in_hand}
-use Rattle.p4_grammar.specs.Values.{later, is_bare, binary, choice_value, op_sign, this, again, chained, joined, sum_op, chain_op, compare_op}
+use Rattle.p4_grammar.specs.Forms.{Lang, only, bind, either, taken, Reader, ◌>>=◌, given, done_at, bind_at, taken_at, hand, is_given, chain, chain_at}
+use Rattle.p4_grammar.specs.Tokens.{is, words, in_hand}
+use Rattle.p4_grammar.specs.Values.{later, is_bare, binary, choice_value, op_sign, this, sum_op, chain_op, compare_op}
 use Rattle.p4_grammar.specs.GrammarExpressions.{sum_of, chain_of, compare_of, and_of, or_of, choice_of}
 use Rattle.p4_grammar.specs.ReadingExpressions.{sum_rest_at, sum_at, compared_at, same_op_at, compare_rest_at, compare_at, and_rest_at, and_at, or_rest_at, choice_at, expr_rest_at}
-use Rattle.p4_grammar.proofs.Languages.{Same, same, flip, same_bind, same_either, assoc, factor, swap, ◌then◌}
-use Rattle.p4_grammar.proofs.Forms.{IsEnd, Reads, bind-reads, taken-reads, done-reads, either-reads, after-reads, chain-reads, fewer}
-use Rattle.p4_grammar.proofs.Basics.{free, is_free, tok, is_self, then-reads, words-reads, Begins, begins_taken, begins_bind, begins_either, said, by_sign, sign_begins, behind-reads}
-use Rattle.p4_grammar.proofs.Facts.{V, goes_on, is_read, never, lower0, lower1, lower2, lower3, lower4, by_later, sum_goes, sum_stops, sum_no_chain, chain_goes, chain_stops, compare_goes, compare_no_chain, compare_stops, again_goes, again_stops, and_goes, and_stops, or_goes, or_stops, ask_stops}
-use Rattle.p4_grammar.proofs.Expressions.{end_end, end_hand, hand_end, apart_option, apart_only, apart_begins, option-reads}
+use Rattle.p4_grammar.proofs.Languages.{Same, same, same_bind, same_either, assoc, factor, swap, ◌then◌}
+use Rattle.p4_grammar.proofs.Forms.{same-reads, IsEnd, Reads, bind-reads, taken-reads, done-reads, either-reads, chain-reads}
+use Rattle.p4_grammar.proofs.Basics.{free, tok, then-reads, words-reads, Begins, begins_taken, begins_bind, said, sign_begins, behind-reads}
+use Rattle.p4_grammar.proofs.Facts.{sum_plus, ChainOp, bigger, chain_small, chain_big, big_ok, V, goes_on, is_read, never, lower0, lower1, lower2, lower3, lower4, by_later, sum_goes, sum_stops, sum_no_chain, chain_goes, chain_stops, compare_goes, compare_no_chain, compare_stops, again_goes, again_stops, and_goes, and_stops, or_goes, or_stops, ask_stops}
+use Rattle.p4_grammar.proofs.Expressions.{end_end, end_hand, hand_end, apart_option, apart_only, option-reads}
 use Rattle.p4_grammar.proofs.Operands.{after_sign}
 
 -- ---- the same languages, behind a first operand
@@ -29,7 +25,7 @@ unfoldable pub compared : ℕ → Lang Spelled → Spelled → Lang Spelled
 compared k D s = either (bind (taken compare_op) λ o. bind (sum_of k D) λ y. only (binary o s y)) (only s)
 
 unfoldable pub same_op : ℕ → Lang Spelled → Spelled → Lang Spelled
-same_op k D x = bind (taken chain_op) λ o. bind D λ y. chain k (λ z. again o) chained D (chained o x y)
+same_op k D x = bind (taken chain_op) λ o. bind D λ y. chain k (λ z. this o) binary D (binary o x y)
 
 unfoldable pub compare_rest : ℕ → Lang Spelled → Spelled → Lang Spelled
 compare_rest k D x = either (same_op k D x) (bind (chain k sum_op binary D x) λ s. compared k D s)
@@ -84,37 +80,56 @@ pub apart_both : {A B : Type 0} (L : Lang A) (K : A → Lang B) (E : Token → B
 apart_both L K E E1 E2 h k z w m (y, u, v, e, d, c) end =
     subst (λ (q : List Token). IsEnd E q) (sym (append_assoc u v m) ∙ ap (λ (q : List Token). q ++ m) (sym e)) (h y u (v ++ m) d (k y z v m c end))
 
-again_self : (o : ChainOp) → again o (tok 0 0 (lexeme.Sign (op_sign (joined o)))) ≡ Ok o
-again_self chains.SatPlus = refl
-again_self o = refl
+this_self : (o : P4BinaryOp) → this o (tok 0 0 (lexeme.Sign (op_sign o))) ≡ Ok o
+this_self binary_op.Or = refl
+this_self o = refl
 
 chain_given : (a : Token) → Bool
 chain_given a = is_given (chain_op a)
 
-chain_self : (a : Token) (o : ChainOp) → chain_op a ≡ Ok o → is_given (chain_op a) ≡ true
+chain_self : (a : Token) (o : P4BinaryOp) → chain_op a ≡ Ok o → is_given (chain_op a) ≡ true
 chain_self a o e = rw e refl
 
 compare_self : (a : Token) (o : P4BinaryOp) → compare_op a ≡ Ok o → is_given (compare_op a) ≡ true
 compare_self a o e = rw e refl
 
+small_to : {A : Type 0} (K : P4BinaryOp → Lang A) (y : A) (w : List Token) → bind (taken chain_op) K y w → bind (taken chain_small) (λ o. K o.0) y w
+small_to K y w (o, u, v, e, (t, tis, g), k) =
+    let s = big_ok (chain_small t) o (sym (chain_big t) ∙ g) in
+    (s.0, u, v, e, (t, tis, s.1), subst (λ (q : P4BinaryOp). K q y v) (sym s.2) k)
+
+small_back : {A : Type 0} (K : P4BinaryOp → Lang A) (y : A) (w : List Token) → bind (taken chain_small) (λ o. K o.0) y w → bind (taken chain_op) K y w
+small_back K y w (s, u, v, e, (t, tis, g), k) = (s.0, u, v, e, (t, tis, chain_big t ∙ ap bigger g), k)
+
+small-same : {A : Type 0} (K : P4BinaryOp → Lang A) → Same (bind (taken chain_op) K) (bind (taken chain_small) (λ o. K o.0))
+small-same K = record { to = small_to K; back = small_back K }
+
+given_big : {A : Type 0} (f : P4BinaryOp → Reader A) (r : Result ChainOp (Unit {0})) (a : Token) (w : List Token) → (given r a w >>= λ q. f (q.0).0 q.1) ≡ (given (bigger r) a w >>= λ q. f q.0 q.1)
+given_big f (Ok s) a w = refl
+given_big f (Err e) a w = refl
+
+small_at : {A : Type 0} (f : P4BinaryOp → Reader A) (w : List Token) → bind_at (taken_at chain_small) (λ o. f o.0) w ≡ bind_at (taken_at chain_op) f w
+small_at f [] = refl
+small_at f (a ∷ w) = given_big f (chain_small a) a w ∙ ap (λ (r : Result P4BinaryOp (Unit {0})). given r a w >>= λ q. f q.0 q.1) (sym (chain_big a))
+
 module _ (n : ℕ) (D U : Lang Spelled) (p : Reader Spelled) (h : Reads n D U (V 0) p) where
   sum_chain-reads : (k : ℕ) (x : Spelled) → Reads n (chain k sum_op binary D x) (chain (suc n) sum_op binary U x) (V 1) (chain_at n sum_op binary p x)
-  sum_chain-reads k x = chain-reads n sum_op binary D U (V 0) p h (V 1) (λ y. (tok 0 0 (lexeme.Sign sign.Plus), binary_op.Plus, refl))
-      (λ o x y a o2 e. by_later 0 y.mark a.lexeme (sum_goes (is_bare (later y.mark)) (is_read (later y.mark)) a.lexeme o2 e))
+  sum_chain-reads k x = chain-reads n sum_op binary D U (V 0) p h (V 1) (λ y. (tok 0 0 (lexeme.Sign sign.Plus), binary_op.Plus, sum_plus (is_bare y.mark)))
+      (λ o x y a o2 e. by_later 0 y.mark a.lexeme (sum_goes (is_bare (later y.mark)) (is_read (later y.mark)) a o2 e))
       (λ o x y m end. end_end (V 0 y) (V 1 (binary o x y)) (λ a e. by_later 0 y.mark a.lexeme (lower0 (is_bare (later y.mark)) (is_read (later y.mark)) a.lexeme e)) m end)
-      (λ x m end. end_hand (V 1 x) (λ a. is_given (sum_op x a)) (λ a e. sum_stops (is_bare x.mark) (is_read x.mark) a.lexeme e) m end)
+      (λ x m end. end_hand (V 1 x) (λ a. is_given (sum_op x a)) (λ a e. sum_stops (is_bare x.mark) (is_read x.mark) a e) m end)
       n k x (omega arith)
 
   sum-reads : (k : ℕ) → Reads n (sum_of k D) (sum_of (suc n) U) (V 1) (sum_at n p)
   unfolding sum_at sum_of sum_rest_at
   sum-reads k = bind-reads n D U (V 0) p (λ x. chain k sum_op binary D x) (λ x. chain (suc n) sum_op binary U x) (V 1) (λ x. chain_at n sum_op binary p x) h (sum_chain-reads k)
-      (λ x y v m d end. chain_front k sum_op binary D (V 0 x) (V 1) x (λ a o e. sum_goes (is_bare x.mark) (is_read x.mark) a.lexeme o e) (λ a e. lower0 (is_bare x.mark) (is_read x.mark) a.lexeme e) y v m d end)
+      (λ x y v m d end. chain_front k sum_op binary D (V 0 x) (V 1) x (λ a o e. sum_goes (is_bare x.mark) (is_read x.mark) a o e) (λ a e. lower0 (is_bare x.mark) (is_read x.mark) a.lexeme e) y v m d end)
 
-  op_chain-reads : (k : ℕ) (o : ChainOp) (x : Spelled) → Reads n (chain k (λ z. again o) chained D x) (chain (suc n) (λ z. again o) chained U x) (V 2) (chain_at n (λ z. again o) chained p x)
-  op_chain-reads k o x = chain-reads n (λ z. again o) chained D U (V 0) p h (V 2) (λ y. (tok 0 0 (lexeme.Sign (op_sign (joined o))), o, again_self o))
+  op_chain-reads : (k : ℕ) (o : ChainOp) (x : Spelled) → Reads n (chain k (λ z. this o.0) binary D x) (chain (suc n) (λ z. this o.0) binary U x) (V 2) (chain_at n (λ z. this o.0) binary p x)
+  op_chain-reads k o x = chain-reads n (λ z. this o.0) binary D U (V 0) p h (V 2) (λ y. (tok 0 0 (lexeme.Sign (op_sign o.0)), o.0, this_self o.0))
       (λ o1 x y a o2 e. again_goes o o2 (is_bare y.mark) (is_read y.mark) a e)
-      (λ o1 x y m end. end_end (V 0 y) (V 2 (chained o1 x y)) (λ a e. by_later 0 y.mark a.lexeme (lower02 (is_bare (later y.mark)) (is_read (later y.mark)) a.lexeme e)) m end)
-      (λ x m end. end_hand (V 2 x) (λ a. is_given (again o a)) (λ a e. again_stops o (is_bare x.mark) (is_read x.mark) a e) m end)
+      (λ o1 x y m end. end_end (V 0 y) (V 2 (binary o1 x y)) (λ a e. by_later 0 y.mark a.lexeme (lower02 (is_bare (later y.mark)) (is_read (later y.mark)) a.lexeme e)) m end)
+      (λ x m end. end_hand (V 2 x) (λ a. is_given (this o.0 a)) (λ a e. again_stops o (is_bare x.mark) (is_read x.mark) a e) m end)
       n k x (omega arith)
 
   compare_begins : (k : ℕ) (s : Spelled) → Begins true (λ a. is_given (compare_op a)) (bind (taken compare_op) λ o. bind (sum_of k D) λ y. only (binary o s y))
@@ -126,16 +141,16 @@ module _ (n : ℕ) (D U : Lang Spelled) (p : Reader Spelled) (h : Reads n D U (V
       (then-reads (taken-reads n compare_op free (tok 0 0 (lexeme.Sign sign.Equal)) binary_op.Equal refl) λ o. bind-reads n (sum_of k D) (sum_of (suc n) U) (V 1) (sum_at n p) (λ y. only (binary o s y)) (λ y. only (binary o s y)) (V 2) (λ y. done_at (binary o s y)) (sum-reads k) (λ y. done-reads n (V 2) (binary o s y))
       (λ y z v m d end. apart_only (V 1 y) (V 2) (binary o s y) (λ a e. by_later 1 y.mark a.lexeme (lower1 (is_bare (later y.mark)) (is_read (later y.mark)) a.lexeme e)) z v m d end))
       (compare_begins k s)
-      (λ a e. compare_stops (is_bare s.mark) (is_read s.mark) a.lexeme e)
+      (λ a e. compare_stops (is_bare s.mark) (is_read s.mark) a e)
 
   -- what goes on with a sum isn't a comparison
   compared_apart : (k : ℕ) (s y : Spelled) (v m : List Token) → compared k D s y v → IsEnd (V 2 y) m → IsEnd (V 1 s) (v ++ m)
   unfolding compared
-  compared_apart k s y v m d end = apart_option (V 1 s) (V 2) (bind (taken compare_op) λ o. bind (sum_of k D) λ z. only (binary o s z)) s (begins_bind (begins_taken (λ a o e. compare_goes (is_bare s.mark) (is_read s.mark) a.lexeme o e))) (λ a e. lower1 (is_bare s.mark) (is_read s.mark) a.lexeme e) y v m d end
+  compared_apart k s y v m d end = apart_option (V 1 s) (V 2) (bind (taken compare_op) λ o. bind (sum_of k D) λ z. only (binary o s z)) s (begins_bind (begins_taken (λ a o e. compare_goes (is_bare s.mark) (is_read s.mark) a o e))) (λ a e. lower1 (is_bare s.mark) (is_read s.mark) a.lexeme e) y v m d end
 
   compared_no_chain : (k : ℕ) (s y : Spelled) (v m : List Token) → compared k D s y v → IsEnd (V 2 y) m → IsEnd chain_given (v ++ m)
   unfolding compared chain_given
-  compared_no_chain k s y v m d end = apart_option chain_given (V 2) (bind (taken compare_op) λ o. bind (sum_of k D) λ z. only (binary o s z)) s (begins_bind (begins_taken (λ a o e. compare_no_chain a.lexeme o e))) (λ a e. chain_stops (is_bare s.mark) (is_read s.mark) a.lexeme e) y v m d end
+  compared_no_chain k s y v m d end = apart_option chain_given (V 2) (bind (taken compare_op) λ o. bind (sum_of k D) λ z. only (binary o s z)) s (begins_bind (begins_taken (λ a o e. compare_no_chain a o e))) (λ a e. chain_stops (is_bare s.mark) (is_read s.mark) a e) y v m d end
 
   summed : ℕ → Lang Spelled → Spelled → Lang Spelled
   summed k L x = bind (chain k sum_op binary L x) λ s. compared k L s
@@ -147,7 +162,7 @@ module _ (n : ℕ) (D U : Lang Spelled) (p : Reader Spelled) (h : Reads n D U (V
   summed_away : (k : ℕ) (x y : Spelled) (w m : List Token) → summed k D x y w → IsEnd (V 2 y) m → hand chain_given (w ++ m) ≡ false
   unfolding summed chain_given
   summed_away k x y w m d end = end_is chain_given (w ++ m) (apart_both (chain k sum_op binary D x) (compared k D) chain_given (λ z. chain_given) (V 2)
-      (λ s u q c rest. chain_front k sum_op binary D chain_given (λ z. chain_given) x (λ a o e. sum_no_chain (is_bare x.mark) a.lexeme o e) (λ a e. e) s u q c rest)
+      (λ s u q c rest. chain_front k sum_op binary D chain_given (λ z. chain_given) x (λ a o e. sum_no_chain (is_bare x.mark) a o e) (λ a e. e) s u q c rest)
       (λ s z v q c e. compared_no_chain k s z v q c e) y w m d end)
 
   same_op_begins : (k : ℕ) (x : Spelled) → Begins true chain_given (same_op k D x)
@@ -157,15 +172,25 @@ module _ (n : ℕ) (D U : Lang Spelled) (p : Reader Spelled) (h : Reads n D U (V
   -- what stands behind the first operand doesn't go on with it
   compare_apart : (k : ℕ) (x y : Spelled) (w m : List Token) → compare_rest k D x y w → IsEnd (V 2 y) m → IsEnd (V 0 x) (w ++ m)
   unfolding compare_rest same_op
-  compare_apart k x y w m (inl d) end = hand_end (V 0 x) (w ++ m) ((begins_bind {b = false} {t = V 0 x} {K = λ o. bind D λ z. chain k (λ r. again o) chained D (chained o x z)} (begins_taken (λ a o e. lower0 (is_bare x.mark) (is_read x.mark) a.lexeme (chain_goes (is_bare x.mark) (is_read x.mark) a.lexeme o e)))).at y w m d)
+  compare_apart k x y w m (inl d) end = hand_end (V 0 x) (w ++ m) ((begins_bind {b = false} {t = V 0 x} {K = λ o. bind D λ z. chain k (λ r. this o) binary D (binary o x z)} (begins_taken (λ a o e. lower0 (is_bare x.mark) (is_read x.mark) a.lexeme (chain_goes (is_bare x.mark) (is_read x.mark) a o e)))).at y w m d)
   compare_apart k x y w m (inr d) end = apart_both (chain k sum_op binary D x) (compared k D) (V 0 x) (V 1) (V 2)
-      (λ s u q c rest. chain_front k sum_op binary D (V 0 x) (V 1) x (λ a o e. sum_goes (is_bare x.mark) (is_read x.mark) a.lexeme o e) (λ a e. lower0 (is_bare x.mark) (is_read x.mark) a.lexeme e) s u q c rest)
+      (λ s u q c rest. chain_front k sum_op binary D (V 0 x) (V 1) x (λ a o e. sum_goes (is_bare x.mark) (is_read x.mark) a o e) (λ a e. lower0 (is_bare x.mark) (is_read x.mark) a.lexeme e) s u q c rest)
       (λ s z v q c e. compared_apart k s z v q c e) y w m d end
 
+  -- the same, with the operator known as one of chains
+  small : ℕ → Lang Spelled → Spelled → ChainOp → Lang Spelled
+  small k L x o = bind L λ y. chain k (λ z. this o.0) binary L (binary o.0 x y)
+
+  small-reads : (k : ℕ) (x : Spelled) (o : ChainOp) → Reads n (small k D x o) (small (suc n) U x o) (V 2) (bind_at p λ y. chain_at n (λ z. this o.0) binary p (binary o.0 x y))
+  unfolding small
+  small-reads k x o = bind-reads n D U (V 0) p (λ y. chain k (λ z. this o.0) binary D (binary o.0 x y)) (λ y. chain (suc n) (λ z. this o.0) binary U (binary o.0 x y)) (V 2) (λ y. chain_at n (λ z. this o.0) binary p (binary o.0 x y)) h (λ y. op_chain-reads k o (binary o.0 x y))
+      (λ y z v m d end. chain_front k (λ z. this o.0) binary D (V 0 y) (V 2) (binary o.0 x y) (λ a o2 e. again_goes o o2 (is_bare y.mark) (is_read y.mark) a e) (λ a e. by_later 0 y.mark a.lexeme (lower02 (is_bare (later y.mark)) (is_read (later y.mark)) a.lexeme e)) z v m d end)
+
   same_op-reads : (k : ℕ) (x : Spelled) → Reads n (same_op k D x) (same_op (suc n) U x) (V 2) (same_op_at n p x)
-  unfolding same_op same_op_at
-  same_op-reads k x = then-reads (taken-reads n chain_op free (tok 0 0 (lexeme.Sign sign.BitAnd)) chains.BitAnd refl) λ o. bind-reads n D U (V 0) p (λ y. chain k (λ z. again o) chained D (chained o x y)) (λ y. chain (suc n) (λ z. again o) chained U (chained o x y)) (V 2) (λ y. chain_at n (λ z. again o) chained p (chained o x y)) h (λ y. op_chain-reads k o (chained o x y))
-      (λ y z v m d end. chain_front k (λ z. again o) chained D (V 0 y) (V 2) (chained o x y) (λ a o2 e. again_goes o o2 (is_bare y.mark) (is_read y.mark) a e) (λ a e. by_later 0 y.mark a.lexeme (lower02 (is_bare (later y.mark)) (is_read (later y.mark)) a.lexeme e)) z v m d end)
+  unfolding same_op same_op_at small
+  same_op-reads k x = said (same-reads n _ _ (V 2) (bind_at (taken_at chain_small) λ o. bind_at p λ y. chain_at n (λ z. this o.0) binary p (binary o.0 x y)) (bind_at (taken_at chain_op) λ o. bind_at p λ y. chain_at n (λ z. this o) binary p (binary o x y)) (small_at (λ o. bind_at p λ y. chain_at n (λ z. this o) binary p (binary o x y)))
+      (then-reads (taken-reads n chain_small free (tok 0 0 (lexeme.Sign sign.BitAnd)) (binary_op.BitAnd, refl) refl) (small-reads k x)))
+      (small-same (λ o. bind D λ y. chain k (λ z. this o) binary D (binary o x y))) (small-same (λ o. bind U λ y. chain (suc n) (λ z. this o) binary U (binary o x y)))
 
   compare_rest-reads : (k : ℕ) (x : Spelled) → Reads n (compare_rest k D x) (compare_rest (suc n) U x) (V 2) (compare_rest_at n p x)
   unfolding compare_rest_at compare_rest summed chain_given

@@ -9,3 +9,14 @@ pub mod Called
 pub mod Alone
 pub mod Factored
 pub mod Plain
+pub mod Higher
+pub mod Paths
+pub mod PathsSame
+pub mod Conditions
+pub mod Statements
+pub mod Keysets
+pub mod KeysetsSame
+pub mod States
+pub mod Steps
+pub mod Tables
+pub mod Programs

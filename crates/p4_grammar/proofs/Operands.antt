@@ -1,5 +1,5 @@
 -- The readers of operands fit.
-use Rattle.std.proofs.Common.{◌≡◌, ℕ, zero, suc, ◌≤◌, Bool, true, false, cond, nat_le, List, [], ◌∷◌, ◌++◌, length, Result, Ok, Err, Option, Some, None, refl, sym, ap, subst, ◌∙◌, append_assoc, arith, inl, inr, ◌⊎◌}
+use Rattle.std.proofs.Common.{◌≡◌, ℕ, suc, Bool, true, false, cond, List, [], ◌∷◌, ◌++◌, Ok, Option, Some, None, refl, sym, ap, subst, ◌∙◌, inl, inr}
 use Rattle.std.specs.Prelude.{codes}
 use Rattle.std.specs.Str.{bytes_eq}
 use Rattle.p4_lex.specs.declared.token.Token.{Token}
@@ -8,26 +8,22 @@ use Rattle.p4_lex.specs.declared.token.Sign.TheVariants as sign
 use Rattle.p4_lex.specs.declared.token.Lexeme.{Lexeme}
 use Rattle.p4_lex.specs.declared.token.Lexeme.TheVariants as lexeme
 use Rattle.p4_ast.specs.declared.name.P4Name.{P4Name}
-use Rattle.p4_ast.specs.declared.name.P4Slice.{P4Slice}
 use Rattle.p4_ast.specs.declared.declaration.P4Type.{P4Type}
-use Rattle.p4_ast.specs.declared.declaration.P4Type.TheVariants as type
 use Rattle.p4_ast.specs.declared.expression.P4UnaryOp.{P4UnaryOp}
 use Rattle.p4_ast.specs.declared.expression.P4UnaryOp.TheVariants as op
 use Rattle.p4_ast.specs.declared.expression.P4Expr.{P4Expr}
-use Rattle.p4_grammar.specs.declared.mark.Mark.{Mark}
 use Rattle.p4_grammar.specs.declared.mark.Mark.TheVariants as mark
 use Rattle.p4_grammar.specs.declared.mark.Spelled.{Spelled}
-use Rattle.p4_grammar.specs.Forms.{Lang, none, only, bind, either, taken, many, Reader, done_at, bind_at, taken_at, hand, either_at, many_at, is_given, Spells}
-use Rattle.p4_grammar.specs.Tokens.{test, is, sign_of, name, number, words, words_at, in_hand, one_of, is_name, called}
-use Rattle.p4_grammar.specs.Values.{Env, later, of_cast, of_path, is_bare, cast_by, path_value, valid_value, number_value, true_value, false_value, parens_value, slice_value, cast_value, unary_value, named_type, unary_lexeme, unary_op, begins_lexeme, begins_operand}
-use Rattle.p4_grammar.specs.GrammarExpressions.{bit_type, bool_type, std_type, word_type, name_type, type_, names, path, slice, sliced}
-use Rattle.p4_grammar.specs.ReadingExpressions.{bit_type_at, bool_type_at, std_type_at, word_type_at, name_type_at, type_at, names_at, path_at, slice_at, sliced_at, asked_at, named_at, plain_at, parens_at, cast_at, closed_at, open_at, unary_of_at, word_type as word_test}
-use Rattle.p4_grammar.proofs.Languages.{Same, same, ◌then◌}
-use Rattle.p4_grammar.proofs.Forms.{IsEnd, Reads, bind-reads, taken-reads, done-reads, either-reads, after-reads, fewer}
-use Rattle.p4_grammar.proofs.Basics.{free, is_free, tok, then-reads, is_self, is-reads, name-reads, number-reads, words-reads, sign-reads, named-reads, numbered-reads, Begins, begins_taken, begins_bind, begins_either, choose-reads, said, by_sign, by_name, by_number, sign_begins, name_begins, number_begins, some_by, list-reads, behind-reads}
-use Rattle.p4_grammar.proofs.Facts.{V, goes_on, is_read, by_later, by_cast, more_slice, more_dot, more_open, bare_operand, ends_all}
+use Rattle.p4_grammar.specs.Forms.{Lang, only, bind, taken, Reader, done_at, bind_at, taken_at, hand, is_given}
+use Rattle.p4_grammar.specs.Tokens.{is, name, words, in_hand, is_name, called}
+use Rattle.p4_grammar.specs.Values.{Env, of_path, is_bare, cast_by, path_value, valid_value, number_value, true_value, false_value, parens_value, cast_value, unary_value, named_type, unary_op, begins_lexeme, begins_operand}
+use Rattle.p4_grammar.specs.GrammarExpressions.{names, sliced}
+use Rattle.p4_grammar.specs.ReadingExpressions.{names_at, sliced_at, asked_at, named_at, plain_at, parens_at, cast_at, closed_at, open_at, unary_of_at, word_type as word_test}
+use Rattle.p4_grammar.proofs.Forms.{IsEnd, Reads, bind-reads, done-reads, either-reads, after-reads}
+use Rattle.p4_grammar.proofs.Basics.{tok, then-reads, is_self, words-reads, sign-reads, numbered-reads, Begins, begins_taken, begins_bind, begins_either, choose-reads, sign_begins, name_begins, number_begins, behind-reads}
+use Rattle.p4_grammar.proofs.Facts.{V, goes_on, is_read, by_later, by_cast, more_dot, more_open, bare_operand}
 use Rattle.std.specs.Cmp.Lexicographic.{same_text}
-use Rattle.p4_grammar.proofs.Expressions.{word_type-reads, word_type_begins, end_end, end_hand, hand_end, begins_map, apart_option, apart_only, apart_begins, option-reads, names-reads, slice_begins, sliced-reads, sliced_apart, asked, named, plain, parens, cast_, closed, open_, signed, name_led, funary}
+use Rattle.p4_grammar.proofs.Expressions.{word_type-reads, word_type_begins, hand_end, begins_map, apart_only, names-reads, sliced-reads, sliced_apart, asked, named, plain, parens, cast_, closed, open_, signed, name_led, funary}
 
 -- ---- paths that may ask
 
@@ -57,9 +53,9 @@ asked-reads {n = n} xs (Some front) h = either-reads n (in_hand sign.Open) _ _ (
     (sliced-reads (path_value xs))
     (sign_begins {t = in_hand sign.Open} sign.Open (λ at e. refl)).at
     (λ y u m d end. end_is (in_hand sign.Open) (u ++ m) (sliced_apart (in_hand sign.Open) (path_value xs) (λ at e. refl) (open_stops (path_value xs) (h front refl)) y u m d end)) where
-  end_is : (E : Token → Bool) (m : List Token) → IsEnd E m → hand E m ≡ false
-  end_is E [] e = refl
-  end_is E (a ∷ m) e = e
+      end_is : (E : Token → Bool) (m : List Token) → IsEnd E m → hand E m ≡ false
+      end_is E [] e = refl
+      end_is E (a ∷ m) e = e
 
 pub named-reads_ : {n : ℕ} (x : P4Name) (xs : List P4Name) → Reads n (named x xs) (named x xs) (V 0) (named_at x xs)
 unfolding named named_at
@@ -95,15 +91,15 @@ plain-reads = choose-reads (in_hand sign.True) (sign-reads sign.True λ at. slic
     (sign_begins sign.False (λ at e. refl)) (number_begins (λ at e v w. refl)))
     (sign_begins sign.True (λ at e. refl)) (begins_either (sign_begins sign.False (λ at e. refl)) (number_begins (λ at e v w. refl)))
 
-plain_begins : {b : Bool} {t : Token → Bool} → ((at e : ℕ) → t (tok at e (lexeme.Sign sign.True)) ≡ b) → ((at e : ℕ) → t (tok at e (lexeme.Sign sign.False)) ≡ b) → ((at e value : ℕ) (width : Option ℕ) → t (tok at e (lexeme.Number value width)) ≡ b) → Begins b t plain
+pub plain_begins : {b : Bool} {t : Token → Bool} → ((at e : ℕ) → t (tok at e (lexeme.Sign sign.True)) ≡ b) → ((at e : ℕ) → t (tok at e (lexeme.Sign sign.False)) ≡ b) → ((at e value : ℕ) (width : Option ℕ) → t (tok at e (lexeme.Number value width)) ≡ b) → Begins b t plain
 unfolding plain
 plain_begins h i j = begins_either (sign_begins sign.True h) (begins_either (sign_begins sign.False i) (number_begins j))
 
-name_led_begins : {b : Bool} {t : Token → Bool} → ((at e : ℕ) (text : List ℕ) → t (tok at e (lexeme.Name text)) ≡ b) → Begins b t name_led
+pub name_led_begins : {b : Bool} {t : Token → Bool} → ((at e : ℕ) (text : List ℕ) → t (tok at e (lexeme.Name text)) ≡ b) → Begins b t name_led
 unfolding name_led
 name_led_begins h = name_begins h
 
-open_begins : {b : Bool} {t : Token → Bool} (env : Env) (U E : Lang Spelled) → ((at e : ℕ) → t (tok at e (lexeme.Sign sign.Open)) ≡ b) → Begins b t (open_ env U E)
+pub open_begins : {b : Bool} {t : Token → Bool} (env : Env) (U E : Lang Spelled) → ((at e : ℕ) → t (tok at e (lexeme.Sign sign.Open)) ≡ b) → Begins b t (open_ env U E)
 unfolding open_
 open_begins env U E h = sign_begins sign.Open h
 
@@ -142,7 +138,7 @@ module _ (n : ℕ) (env : Env) (D U D2 U2 : Lang Spelled) (p q : Reader Spelled)
     end_is E [] e = refl
     end_is E (a ∷ m) e = e
 
-  parens-reads : (at : ℕ) (o : Option P4Name) (e : P4Expr) → Reads n (parens at o D e) (parens at o U e) (V 0) (parens_at at o p e)
+  pub parens-reads : (at : ℕ) (o : Option P4Name) (e : P4Expr) → Reads n (parens at o D e) (parens at o U e) (V 0) (parens_at at o p e)
   unfolding parens parens_at
   parens-reads at None e = sliced-reads (parens_value at e mark.Plain)
   parens-reads at (Some x) e = either-reads n begins_operand _ _ (V 0) _ _ _ _

@@ -1,5 +1,5 @@
 -- The readers of productions that the token in hand decides.
-use Rattle.std.proofs.Common.{◌≡◌, ℕ, zero, suc, Bool, true, false, cond, List, [], ◌∷◌, ◌++◌, Result, Ok, Err, Option, Some, None, refl, sym, ap, subst, ◌∙◌, append_assoc, append-nil, inl, inr, ◌⊎◌}
+use Rattle.std.proofs.Common.{◌≡◌, ℕ, Bool, true, false, cond, List, [], ◌∷◌, ◌++◌, Ok, Some, None, refl, sym, ap, subst, ◌∙◌, append_assoc, inl, inr, ◌⊎◌}
 use Rattle.std.specs.Prelude.{codes}
 use Rattle.p4_lex.specs.declared.token.Token.{Token}
 use Rattle.p4_lex.specs.declared.token.Sign.{Sign}
@@ -8,7 +8,6 @@ use Rattle.p4_lex.specs.declared.token.Lexeme.{Lexeme}
 use Rattle.p4_lex.specs.declared.token.Lexeme.TheVariants as lexeme
 use Rattle.p4_ast.specs.declared.name.P4Name.{P4Name}
 use Rattle.p4_ast.specs.declared.name.P4Number.{P4Number}
-use Rattle.p4_ast.specs.declared.name.P4Slice.{P4Slice}
 use Rattle.p4_ast.specs.declared.declaration.P4Type.{P4Type}
 use Rattle.p4_ast.specs.declared.declaration.P4Type.TheVariants as type
 use Rattle.p4_ast.specs.declared.declaration.P4Declaration.TheVariants as declaration
@@ -17,21 +16,20 @@ use Rattle.p4_ast.specs.declared.control.P4Var.{P4Var}
 use Rattle.p4_ast.specs.declared.control.P4Cell.TheVariants as cell
 use Rattle.p4_ast.specs.declared.table.P4Match.TheVariants as matching
 use Rattle.p4_ast.specs.declared.statement.P4Outcome.TheVariants as outcome
-use Rattle.p4_grammar.specs.declared.mark.Spelled.{Spelled}
-use Rattle.p4_grammar.specs.Forms.{Lang, none, only, bind, either, taken, many, Reader, done_at, bind_at, taken_at, hand, either_at, many_at, is_given, Spells}
-use Rattle.p4_grammar.specs.Tokens.{is, name, number, the_name, text_of, words, words_at, in_hand, but, one_of, is_name}
+use Rattle.p4_grammar.specs.Forms.{Lang, only, bind, either, taken, many, Reader, done_at, bind_at, hand, many_at, is_given}
+use Rattle.p4_grammar.specs.Tokens.{is, name, number, the_name, text_of, words, words_at, in_hand, but}
 use Rattle.p4_grammar.specs.Values.{Env, type_place, path_of, begins_lexeme, begins_operand}
-use Rattle.p4_grammar.specs.Trees.{field_of, Declared, declared_more}
-use Rattle.p4_grammar.specs.GrammarExpressions.{bit_type, bool_type, std_type, name_type, word_type, type_, path, slice, expr, expression, expressions, args}
+use Rattle.p4_grammar.specs.Trees.{field_of}
+use Rattle.p4_grammar.specs.GrammarExpressions.{bit_type, bool_type, std_type, name_type, word_type, type_, expr, expression, expressions, args}
 use Rattle.p4_grammar.specs.GrammarStatements.{outcome_, var, slice_or_none}
 use Rattle.p4_grammar.specs.Grammar.{field, fields, header, struct_, typedef, const_, declaration_, param, match_, key, keys, act, acts, call, size, flow_cell, flow_array, closed_type, typed, typed_list, last_param, emit, deparser, instance_, package_}
-use Rattle.p4_grammar.specs.ReadingExpressions.{type_at, word_type_at, expr_at, expression_at, expressions_at, args_at}
+use Rattle.p4_grammar.specs.ReadingExpressions.{type_at, expr_at, expression_at, expressions_at, args_at}
 use Rattle.p4_grammar.specs.ReadingStatements.{outcome_at, var_rest_at, var_at, slice_or_none_at}
 use Rattle.p4_grammar.specs.Reading.{field_at, fields_at, header_at, struct_at, typedef_at, const_at, declaration_at, param_at, match_at, key_of_at, keys_at, act_at, acts_at, call_at, size_at, flow_cell_at, flow_array_at, bit_closed_at, closed_type_at, typed_at, typed_list_at, last_param_at, emit_at, deparser_at, instance_at, package_at}
-use Rattle.p4_grammar.proofs.Languages.{Same, same, flip, same_bind, same_either, assoc, dist, factor, bind_only, swap, turn, same_words, words_bind, factor_words, ◌then◌}
-use Rattle.p4_grammar.proofs.Forms.{IsEnd, Reads, bind-reads, done-reads, fits, either-reads}
-use Rattle.p4_grammar.proofs.Basics.{free, is_free, tok, then-reads, name-reads, number-reads, the_name-reads, words-reads, sign-reads, named-reads, numbered-reads, Begins, begins_taken, begins_bind, begins_either, begins_any, choose-reads, said, by_sign, by_name, by_text, sign_begins, name_begins, number_begins, list-reads, list_to-reads, behind-reads}
-use Rattle.p4_grammar.proofs.Facts.{test_true, V, ends_all, all_ends, is_read}
+use Rattle.p4_grammar.proofs.Languages.{Same, same, same_bind, same_either, assoc, dist, factor, bind_only, same_words, words_bind, factor_words, ◌then◌}
+use Rattle.p4_grammar.proofs.Forms.{IsEnd, Reads, bind-reads, done-reads}
+use Rattle.p4_grammar.proofs.Basics.{free, tok, then-reads, the_name-reads, words-reads, sign-reads, named-reads, numbered-reads, Begins, begins_taken, begins_bind, begins_either, choose-reads, said, sign_begins, name_begins, list-reads, list_to-reads, behind-reads}
+use Rattle.p4_grammar.proofs.Facts.{test_true, V, ends_all, all_ends}
 use Rattle.p4_grammar.proofs.Expressions.{type-reads, type_begins, bool_type-reads, std_type-reads, name_type-reads, name_type_begins, path-reads, slice-reads, slice_begins, apart_only, option-reads, hand_end, end_end, begins_map}
 use Rattle.p4_grammar.proofs.Levels.{apart_both}
 use Rattle.p4_grammar.proofs.Operands.{same_bytes}
@@ -280,6 +278,7 @@ cell_shuffle {A = A} {L = L} {M = M} {N = N} {O = O} {P = P} = record { to = to;
   to x u (inl (inl (inr (inr d)))) = inr (inr (inl d))
   to x u (inl (inr d)) = inr (inr (inr d))
   to x u (inr d) = inl (inr d)
+
   back : (x : A) (u : List Token) → (L x u ⊎ P x u) ⊎ (M x u ⊎ (N x u ⊎ O x u)) → ((L x u ⊎ (M x u ⊎ N x u)) ⊎ O x u) ⊎ P x u
   back x u (inl (inl d)) = inl (inl (inl d))
   back x u (inl (inr d)) = inr d

@@ -79,22 +79,23 @@ abbrev pub chain_at : {A O : Type 0} → ℕ → (A → Token → Result O (Unit
 chain_at zero op join p x w = Err w
 chain_at (suc n) op join p x w = either_at (λ a. is_given (op x a)) (bind_at (taken_at (op x)) λ o. bind_at p λ y. chain_at n op join p (join o x y)) (done_at x) w
 
--- ---- the whole text; P k are the derivations of height k
+-- ---- the whole text
 
+-- derivations of any height, where P k are those of height k
 abbrev pub Spells : {A : Type 0} → (ℕ → Lang A) → A → List Token → Type 0
 Spells P x w = (k : ℕ) × P k x w
 
 -- the tokens are a prefix of a list that is derived
-abbrev pub Begins : {A : Type 0} → (ℕ → Lang A) → List Token → Type 0
-Begins {A = A} P u = (x : A) × (v : List Token) × Spells P x (u ++ v)
+abbrev pub Begins : {A : Type 0} → Lang A → List Token → Type 0
+Begins {A = A} L u = (x : A) × (v : List Token) × L x (u ++ v)
 
-abbrev pub Refused : {A : Type 0} → (ℕ → Lang A) → List Token → List Token → Type 0
-Refused P u [] = Unit {0}
-Refused P u (a ∷ r) = Begins P (u ++ a ∷ []) → ⊥
+abbrev pub Refused : {A : Type 0} → Lang A → List Token → List Token → Type 0
+Refused L u [] = Unit {0}
+Refused L u (a ∷ r) = Begins L (u ++ a ∷ []) → ⊥
 
 -- The tokens before r are a prefix of a derived list. With the first of r they are none; all of them aren't derived.
-abbrev pub IsFault : {A : Type 0} → (ℕ → Lang A) → List Token → List Token → Type 0
-IsFault {A = A} P w r = (u : List Token) × (w ≡ u ++ r) × Begins P u × Refused P u r × ((x : A) → Spells P x w → ⊥)
+abbrev pub IsFault : {A : Type 0} → Lang A → List Token → List Token → Type 0
+IsFault {A = A} L w r = (u : List Token) × (w ≡ u ++ r) × Begins L u × Refused L u r × ((x : A) → L x w → ⊥)
 
 abbrev pub ended : {A : Type 0} → A → List Token → Result A (List Token)
 ended x [] = Ok x

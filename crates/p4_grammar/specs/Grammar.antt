@@ -1,5 +1,5 @@
 -- The grammar of programs. A production is the language of its trees.
-use Rattle.std.specs.Prelude.{ℕ, zero, suc, Bool, true, false, List, [], ◌∷◌, Option, Some, None, codes}
+use Rattle.std.specs.Prelude.{ℕ, List, [], ◌∷◌, Option, Some, None, codes}
 use Rattle.p4_lex.specs.declared.token.Sign.{Sign}
 use Rattle.p4_lex.specs.declared.token.Sign.TheVariants as sign
 use Rattle.p4_ast.specs.declared.name.P4Name.{P4Name}
@@ -46,12 +46,11 @@ use Rattle.p4_ast.specs.declared.program.P4Deparser.{P4Deparser}
 use Rattle.p4_ast.specs.declared.program.P4Emit.{P4Emit}
 use Rattle.p4_ast.specs.declared.program.P4Package.{P4Package}
 use Rattle.p4_grammar.specs.declared.mark.Properties.{Properties}
-use Rattle.p4_grammar.specs.declared.mark.Spelled.{Spelled}
 use Rattle.p4_grammar.specs.Forms.{Lang, none, only, bind, either, taken, many, steps, option, Spells}
 use Rattle.p4_grammar.specs.Tokens.{is, name, number, the_name, words}
-use Rattle.p4_grammar.specs.Values.{Env, path_of, first_at, named_type}
+use Rattle.p4_grammar.specs.Values.{Env, path_of, first_at}
 use Rattle.p4_grammar.specs.Trees.{keyset_place, field_of, program_of, left_of, no_properties, is_none, with_default, with_entries, with_size, Declared, declared_more, start_of, is_const}
-use Rattle.p4_grammar.specs.GrammarExpressions.{bool_type, std_type, name_type, type_, path, expr, expression, expressions, args}
+use Rattle.p4_grammar.specs.GrammarExpressions.{type_, path, expr, expression, expressions, args}
 use Rattle.p4_grammar.specs.GrammarStatements.{slice_or_none, var, block}
 
 -- ---- declarations

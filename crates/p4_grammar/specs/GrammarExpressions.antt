@@ -1,5 +1,5 @@
 -- The grammar of types, paths and expressions. A production is the language of its trees; k bounds the height of a derivation.
-use Rattle.std.specs.Prelude.{ℕ, zero, suc, Bool, true, false, cond, List, [], ◌∷◌, map, Option, Some, None, codes}
+use Rattle.std.specs.Prelude.{ℕ, zero, suc, Bool, true, cond, List, [], ◌∷◌, codes}
 use Rattle.p4_lex.specs.declared.token.Sign.TheVariants as sign
 use Rattle.p4_ast.specs.declared.name.P4Name.{P4Name}
 use Rattle.p4_ast.specs.declared.name.P4Slice.{P4Slice}
@@ -10,7 +10,7 @@ use Rattle.p4_ast.specs.declared.expression.P4Expr.{P4Expr}
 use Rattle.p4_grammar.specs.declared.mark.Spelled.{Spelled}
 use Rattle.p4_grammar.specs.Forms.{Lang, none, only, bind, either, taken, many, chain, Spells}
 use Rattle.p4_grammar.specs.Tokens.{is, name, number, the_name, words}
-use Rattle.p4_grammar.specs.Values.{Env, has, of_parens, path_value, valid_value, number_value, true_value, false_value, parens_value, slice_value, cast_value, unary_value, binary, choice_value, named_type, this, compare_op, chain_op, again, chained, sum_op, unary_op}
+use Rattle.p4_grammar.specs.Values.{Env, has, of_parens, path_value, valid_value, number_value, true_value, false_value, parens_value, slice_value, cast_value, unary_value, binary, choice_value, named_type, this, compare_op, chain_op, sum_op, unary_op}
 
 -- ---- types
 
@@ -90,7 +90,7 @@ sum_of k U = bind U λ x. chain k sum_op binary U x
 
 -- chain = unary op unary { op unary }, the same op throughout
 unfoldable pub chain_of : ℕ → Lang Spelled → Lang Spelled
-chain_of k U = bind U λ x. bind (taken chain_op) λ o. bind U λ y. chain k (λ z. again o) chained U (chained o x y)
+chain_of k U = bind U λ x. bind (taken chain_op) λ o. bind U λ y. chain k (λ z. this o) binary U (binary o x y)
 
 -- compare = sum [ ( "==" | "!=" | "<" | "<=" | ">" | ">=" ) sum ] | chain
 unfoldable pub compare_of : ℕ → Lang Spelled → Lang Spelled

@@ -1,5 +1,5 @@
 -- The grammar of statements.
-use Rattle.std.specs.Prelude.{ℕ, zero, suc, Bool, true, false, cond, List, [], ◌∷◌, Option, Some, None, codes}
+use Rattle.std.specs.Prelude.{ℕ, zero, suc, Bool, true, false, [], ◌∷◌, Option, Some, None, codes}
 use Rattle.p4_lex.specs.declared.token.Sign.TheVariants as sign
 use Rattle.p4_ast.specs.declared.name.P4Slice.{P4Slice}
 use Rattle.p4_ast.specs.declared.name.P4Left.{P4Left}
@@ -11,7 +11,6 @@ use Rattle.p4_ast.specs.declared.statement.P4Cond.{P4Cond}
 use Rattle.p4_ast.specs.declared.statement.P4Cond.TheVariants as condition
 use Rattle.p4_ast.specs.declared.statement.P4Outcome.{P4Outcome}
 use Rattle.p4_ast.specs.declared.statement.P4Outcome.TheVariants as outcome
-use Rattle.p4_ast.specs.declared.statement.P4Validity.{P4Validity}
 use Rattle.p4_ast.specs.declared.statement.P4Validity.TheVariants as validity
 use Rattle.p4_grammar.specs.declared.mark.Piece.{Piece}
 use Rattle.p4_grammar.specs.declared.mark.Piece.TheVariants as piece

@@ -1,5 +1,5 @@
 -- Reading programs, with one token in hand.
-use Rattle.std.specs.Prelude.{ℕ, zero, suc, Bool, true, false, List, [], ◌∷◌, ◌++◌, length, Result, Err, Option, Some, None, codes}
+use Rattle.std.specs.Prelude.{ℕ, zero, suc, Bool, true, false, List, [], ◌∷◌, length, Result, Err, Option, Some, None, codes}
 use Rattle.p4_lex.specs.declared.token.Sign.{Sign}
 use Rattle.p4_lex.specs.declared.token.Sign.TheVariants as sign
 use Rattle.p4_lex.specs.declared.token.Token.{Token}
@@ -51,8 +51,8 @@ use Rattle.p4_grammar.specs.declared.mark.Properties.{Properties}
 use Rattle.p4_grammar.specs.declared.mark.Spelled.{Spelled}
 use Rattle.p4_grammar.specs.Forms.{Reader, done_at, bind_at, taken_at, either_at, many_at, steps_at, option_at, all_at}
 use Rattle.p4_grammar.specs.Tokens.{is, name, number, the_name, in_hand, but, one_of, words_at, called}
-use Rattle.p4_grammar.specs.Values.{Env, known, cast_by, path_of, first_at, cast_value}
-use Rattle.p4_grammar.specs.Trees.{Declared, declared_more, start_of, is_const, keyset_place, field_of, program_of, left_of, alone, no_properties, is_none, with_default, with_entries, with_size}
+use Rattle.p4_grammar.specs.Values.{Env, cast_by, path_of, first_at, cast_value}
+pub use Rattle.p4_grammar.specs.Trees.{Declared, declared_more, start_of, is_const, keyset_place, field_of, program_of, left_of, alone, no_properties, is_none, with_default, with_entries, with_size}
 use Rattle.p4_grammar.specs.ReadingExpressions.{bool_type_at, std_type_at, name_type_at, word_type, word_type_at, type_at, names_at, path_at, parens_at, unary_at, expr_at, behind_at, expression_at, expressions_at, args_at}
 use Rattle.p4_grammar.specs.ReadingStatements.{slice_or_none_at, var_at, block_at}
 

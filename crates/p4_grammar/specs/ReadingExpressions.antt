@@ -12,7 +12,7 @@ use Rattle.p4_grammar.specs.declared.mark.Mark.TheVariants as mark
 use Rattle.p4_grammar.specs.declared.mark.Spelled.{Spelled}
 use Rattle.p4_grammar.specs.Forms.{Reader, done_at, bind_at, taken_at, either_at, many_at, is_given, chain_at}
 use Rattle.p4_grammar.specs.Tokens.{is, name, number, in_hand, one_of, is_name, words_at, called}
-use Rattle.p4_grammar.specs.Values.{Env, cast_by, path_value, valid_value, number_value, true_value, false_value, parens_value, slice_value, cast_value, unary_value, binary, choice_value, named_type, this, compare_op, chain_op, again, chained, sum_op, unary_op, begins_operand}
+use Rattle.p4_grammar.specs.Values.{Env, cast_by, path_value, valid_value, number_value, true_value, false_value, parens_value, slice_value, cast_value, unary_value, binary, choice_value, named_type, this, compare_op, chain_op, sum_op, unary_op, begins_operand}
 
 -- ---- types
 
@@ -105,7 +105,7 @@ compared_at n u s = either_at (λ a. is_given (compare_op a)) (bind_at (taken_at
 
 -- a chain of one operator throughout
 unfoldable pub same_op_at : ℕ → Reader Spelled → Spelled → Reader Spelled
-same_op_at n u x = bind_at (taken_at chain_op) λ o. bind_at u λ y. chain_at n (λ z. again o) chained u (chained o x y)
+same_op_at n u x = bind_at (taken_at chain_op) λ o. bind_at u λ y. chain_at n (λ z. this o) binary u (binary o x y)
 
 unfoldable pub compare_rest_at : ℕ → Reader Spelled → Spelled → Reader Spelled
 compare_rest_at n u x = either_at (λ a. is_given (chain_op a)) (same_op_at n u x) (bind_at (sum_rest_at n u x) λ s. compared_at n u s)

@@ -7,7 +7,6 @@ use Rattle.p4_ast.specs.declared.name.P4Left.{P4Left}
 use Rattle.p4_ast.specs.declared.declaration.P4Type.{P4Type}
 use Rattle.p4_ast.specs.declared.expression.P4UnaryOp.TheVariants as op
 use Rattle.p4_ast.specs.declared.control.P4Var.{P4Var}
-use Rattle.p4_ast.specs.declared.statement.P4Stmt.TheVariants as stmt
 use Rattle.p4_ast.specs.declared.statement.P4Block.{P4Block}
 use Rattle.p4_ast.specs.declared.statement.P4Cond.{P4Cond}
 use Rattle.p4_ast.specs.declared.statement.P4Cond.TheVariants as condition
@@ -23,7 +22,7 @@ use Rattle.p4_grammar.specs.declared.mark.Spelled.{Spelled}
 use Rattle.p4_grammar.specs.Forms.{Reader, done_at, bind_at, taken_at, either_at, many_at, is_given}
 use Rattle.p4_grammar.specs.Tokens.{is, name, the_name, in_hand, but, is_name, words_at, called}
 use Rattle.p4_grammar.specs.Values.{Env, unary_value, named_type, type_place}
-use Rattle.p4_grammar.specs.Trees.{kept_all, block_of, is_open, if_piece, if_else_piece, left_of, assign_piece, read_piece, write_piece, valid_piece, apply_piece, call_piece, key_piece, alone, var_piece}
+pub use Rattle.p4_grammar.specs.Trees.{kept_all, block_of, is_open, if_piece, if_else_piece, left_of, assign_piece, read_piece, write_piece, valid_piece, apply_piece, call_piece, key_piece, alone, var_piece}
 use Rattle.p4_grammar.specs.ReadingExpressions.{word_type, word_type_at, names_at, slice_at, named_at, unary_at, expr_at, behind_at, expression_at, args_at}
 
 -- ---- conditions

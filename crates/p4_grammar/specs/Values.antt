@@ -23,8 +23,6 @@ use Rattle.p4_ast.specs.declared.expression.P4Expr.TheVariants as expr
 use Rattle.p4_grammar.specs.declared.mark.Mark.{Mark}
 use Rattle.p4_grammar.specs.declared.mark.Mark.TheVariants as mark
 use Rattle.p4_grammar.specs.declared.mark.Spelled.{Spelled}
-use Rattle.p4_grammar.specs.declared.mark.ChainOp.{ChainOp}
-use Rattle.p4_grammar.specs.declared.mark.ChainOp.TheVariants as chains
 use Rattle.p4_grammar.specs.Tokens.{test, in_hand}
 
 -- the typedefs that are declared, the latest first
@@ -175,67 +173,22 @@ op_sign binary_op.Concat = sign.Concat
 abbrev pub this : P4BinaryOp → Token → Result P4BinaryOp (Unit {0})
 this o t = test (in_hand (op_sign o) t) o
 
-abbrev pub compare_lexeme : Lexeme → Result P4BinaryOp (Unit {0})
-compare_lexeme (lexeme.Sign sign.Equal) = Ok binary_op.Equal
-compare_lexeme (lexeme.Sign sign.NotEqual) = Ok binary_op.NotEqual
-compare_lexeme (lexeme.Sign sign.Less) = Ok binary_op.Less
-compare_lexeme (lexeme.Sign sign.LessEqual) = Ok binary_op.LessEqual
-compare_lexeme (lexeme.Sign sign.More) = Ok binary_op.More
-compare_lexeme (lexeme.Sign sign.MoreEqual) = Ok binary_op.MoreEqual
-compare_lexeme (lexeme.Sign s) = Err tt
-compare_lexeme (lexeme.Name text) = Err tt
-compare_lexeme (lexeme.Number value width) = Err tt
+-- the first of these operators whose sign the token is
+abbrev pub some_op : List P4BinaryOp → Token → Result P4BinaryOp (Unit {0})
+some_op [] t = Err tt
+some_op (o ∷ os) t = cond (in_hand (op_sign o) t) (Ok o) (some_op os t)
 
 -- the operators of comparisons
 abbrev pub compare_op : Token → Result P4BinaryOp (Unit {0})
-compare_op t = compare_lexeme t.lexeme
-
--- an operator of chains as an operator
-abbrev pub joined : ChainOp → P4BinaryOp
-joined chains.SatPlus = binary_op.SatPlus
-joined chains.SatMinus = binary_op.SatMinus
-joined chains.BitAnd = binary_op.BitAnd
-joined chains.BitOr = binary_op.BitOr
-joined chains.BitXor = binary_op.BitXor
-joined chains.ShiftLeft = binary_op.ShiftLeft
-joined chains.ShiftRight = binary_op.ShiftRight
-joined chains.Concat = binary_op.Concat
-
-abbrev pub chain_lexeme : Lexeme → Result ChainOp (Unit {0})
-chain_lexeme (lexeme.Sign sign.SatPlus) = Ok chains.SatPlus
-chain_lexeme (lexeme.Sign sign.SatMinus) = Ok chains.SatMinus
-chain_lexeme (lexeme.Sign sign.BitAnd) = Ok chains.BitAnd
-chain_lexeme (lexeme.Sign sign.BitOr) = Ok chains.BitOr
-chain_lexeme (lexeme.Sign sign.BitXor) = Ok chains.BitXor
-chain_lexeme (lexeme.Sign sign.ShiftLeft) = Ok chains.ShiftLeft
-chain_lexeme (lexeme.Sign sign.ShiftRight) = Ok chains.ShiftRight
-chain_lexeme (lexeme.Sign sign.Concat) = Ok chains.Concat
-chain_lexeme (lexeme.Sign s) = Err tt
-chain_lexeme (lexeme.Name text) = Err tt
-chain_lexeme (lexeme.Number value width) = Err tt
+compare_op t = some_op (binary_op.Equal ∷ binary_op.NotEqual ∷ binary_op.Less ∷ binary_op.LessEqual ∷ binary_op.More ∷ binary_op.MoreEqual ∷ []) t
 
 -- the operators of chains
-abbrev pub chain_op : Token → Result ChainOp (Unit {0})
-chain_op t = chain_lexeme t.lexeme
-
--- the same operator once more
-abbrev pub again : ChainOp → Token → Result ChainOp (Unit {0})
-again o t = test (in_hand (op_sign (joined o)) t) o
-
-abbrev pub chained : ChainOp → Spelled → Spelled → Spelled
-chained o x y = binary (joined o) x y
-
-abbrev pub sum_lexeme : Bool → Lexeme → Result P4BinaryOp (Unit {0})
-sum_lexeme bare (lexeme.Sign sign.Plus) = Ok binary_op.Plus
-sum_lexeme true (lexeme.Sign sign.Minus) = Err tt
-sum_lexeme false (lexeme.Sign sign.Minus) = Ok binary_op.Minus
-sum_lexeme bare (lexeme.Sign s) = Err tt
-sum_lexeme bare (lexeme.Name text) = Err tt
-sum_lexeme bare (lexeme.Number value width) = Err tt
+abbrev pub chain_op : Token → Result P4BinaryOp (Unit {0})
+chain_op t = some_op (binary_op.SatPlus ∷ binary_op.SatMinus ∷ binary_op.BitAnd ∷ binary_op.BitOr ∷ binary_op.BitXor ∷ binary_op.ShiftLeft ∷ binary_op.ShiftRight ∷ binary_op.Concat ∷ []) t
 
 -- The operators of sums. A typedef's name in parentheses before an operand is a cast: so no difference has it as its left side's end.
 abbrev pub sum_op : Spelled → Token → Result P4BinaryOp (Unit {0})
-sum_op x t = sum_lexeme (is_bare x.mark) t.lexeme
+sum_op x t = some_op (cond (is_bare x.mark) (binary_op.Plus ∷ []) (binary_op.Plus ∷ binary_op.Minus ∷ [])) t
 
 abbrev pub unary_lexeme : ℕ → Lexeme → Result (P4UnaryOp × ℕ) (Unit {0})
 unary_lexeme at (lexeme.Sign sign.Not) = Ok (op.Not, at)

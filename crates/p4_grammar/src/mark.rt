@@ -35,27 +35,6 @@ pub enum Piece {
     Open { at: u64, stmt: P4Stmt },
 }
 
-/// An operator of chains.
-#[derive(Clone, Copy, Debug, PartialEq, Eq)]
-pub enum ChainOp {
-    /// `|+|`
-    SatPlus,
-    /// `|-|`
-    SatMinus,
-    /// `&`
-    BitAnd,
-    /// `|`
-    BitOr,
-    /// `^`
-    BitXor,
-    /// `<<`
-    ShiftLeft,
-    /// `>>`
-    ShiftRight,
-    /// `++`
-    Concat,
-}
-
 /// The properties of a table that were read, each at most once.
 #[derive(Debug, Drop)]
 pub struct Properties {
