@@ -10,8 +10,9 @@ use Rattle.std.specs.Str.{bytes_eq}
 use Rattle.p4_ast.specs.declared.name.P4Name.{P4Name}
 use Rattle.p4_ast.specs.declared.name.P4Number.{P4Number}
 use Rattle.p4_ast.specs.Bare.{bare_name, bare_number}
-use Rattle.p4_grammar.specs.Forms.{Lang, only, bind, either, taken, many}
+use Rattle.p4_grammar.specs.Forms.{Lang, only, bind, either, taken, many, Spells}
 use Rattle.p4_grammar.specs.Tokens.{test, code, is, sign_of, name, name_of, number, number_of, the_name, text_of, words}
+use Rattle.p4_grammar.proofs.Languages.{Same}
 use Rattle.p4_grammar.proofs.Basics.{tok, given_self, by_sign}
 use Rattle.p4_grammar.proofs.Operands.{same_bytes}
 use Rattle.p4_print.specs.Shared.{the, named, all, separated, maybe, name_tokens}
@@ -279,6 +280,42 @@ text_tells text = record { is = text_is; again = text_again } where
 pub text-again : (text : List ℕ) → Again (taken (the_name text)) (λ at. lexeme.Name text ∷ []) (λ at. tt {0})
 text-again text = token-again (text_of text) (λ at. lexeme.Name text) (λ at. tt {0}) (text_tells text)
 
+-- ---- tokens by their lexemes
+
+-- a token with lexemes before and behind it
+pub record Around (a : List Lexeme) (l : Lexeme) (b : List Lexeme) (v : List Token) : Type 0 where
+  pub front : List Token
+  pub token : Token
+  pub behind : List Token
+  pub parted : v ≡ front ++ token ∷ behind
+  pub fronts : lexemes front ≡ a
+  pub here : token.lexeme ≡ l
+  pub behinds : lexemes behind ≡ b
+
+pub around : (a : List Lexeme) (l : Lexeme) (b : List Lexeme) (v : List Token) → lexemes v ≡ a ++ (l ∷ b) → Around a l b v
+around a l b v s =
+    let p : Parts a (l ∷ b) v = parts a (l ∷ b) v s in
+    let q : Parts (l ∷ []) b p.behind = parts (l ∷ []) b p.behind p.behinds in
+    let t : (t : Token) × (q.front ≡ t ∷ []) × (t.lexeme ≡ l) = one_token q.front l q.fronts in
+    record { front = p.front; token = t.0; behind = q.behind; parted = p.is ∙ ap (λ (r : List Token). p.front ++ r) (q.is ∙ ap (λ (r : List Token). r ++ q.behind) t.1); fronts = p.fronts; here = t.2; behinds = q.behinds }
+
+-- the place of a sign
+pub sign_at : (s : Sign) (t : Token) → t.lexeme ≡ the s → is s t ≡ Ok t.at
+sign_at s t h = ap (sign_of s t.at) h ∙ given_self (code s) t.at
+
+-- a token of this lexeme that stands first
+pub record Leads (l : Lexeme) (b : List Lexeme) (v : List Token) : Type 0 where
+  pub token : Token
+  pub behind : List Token
+  pub parted : v ≡ token ∷ behind
+  pub here : token.lexeme ≡ l
+  pub behinds : lexemes behind ≡ b
+
+pub leads : (l : Lexeme) (b : List Lexeme) (v : List Token) → lexemes v ≡ l ∷ b → Leads l b v
+unfolding tail_of head_of
+leads l b [] e = absurd cc
+leads l b (t ∷ v) e = record { token = t; behind = v; parted = refl; here = ap (head_of l) e; behinds = ap tail_of e }
+
 -- ---- signs, and repetition
 
 pub words_step : {Y C : Type 0} {p : List Lexeme → List Lexeme} {f : Y → List Lexeme} {b : Y → C} {K M : Lang Y} (ss : List Sign) → Onward (λ r. p (map the ss ++ r)) f b K M → Onward p f b (words ss K) (words ss M)
@@ -359,3 +396,26 @@ module _ {A : Type 0} (V : Lexeme → Type 0) (L : Lang A) (P : A → Type 0) (h
 
 pub says_many : {A : Type 0} {V : Lexeme → Type 0} {L : Lang A} {P : A → Type 0} → Says V L P → Says V (many L) (AllByRecursion P)
 says_many {V = V} {L = L} {P = P} h = record { at = many_at V L P h }
+
+-- ---- other forms of the same language
+
+pub again_same : {A C : Type 0} {L M : Lang A} {f : A → List Lexeme} {b : A → C} → Same L M → Again L f b → Again M f b
+again_same s h = record {
+  back = λ x w d v e. let r : _ = h.back x w (s.back x w d) v e in (r.0, s.to r.0 v r.1, r.2);
+  kept = λ V g x w d a. h.kept V g x w (s.back x w d) a;
+}
+
+-- the same behind two prefixes that are one
+pub onward_as : {Y C : Type 0} {p q : List Lexeme → List Lexeme} {f : Y → List Lexeme} {b : Y → C} {K M O N : Lang Y} → ((r : List Lexeme) → p r ≡ q r) → Same K O → Same M N → Onward q f b O N → Onward p f b K M
+onward_as {p = p} {q = q} same k m h = record {
+  left = λ apart y w d.
+      let l : Left _ _ _ _ y w = h.left (λ x z e. apart x z (same x ∙ e ∙ sym (same z))) y w (k.to y w d) in
+      record { more = l.more; is = l.is ∙ sym (same l.more); back = λ v e. ((l.back v e).0, m.back (l.back v e).0 v (l.back v e).1, (l.back v e).2); kept = l.kept };
+}
+
+-- of any height
+pub any-again : {A C : Type 0} {P : ℕ → Lang A} {f : A → List Lexeme} {b : A → C} → ((k : ℕ) → Again (P k) f b) → Again (Spells P) f b
+any-again h = record {
+  back = λ x w d v e. let r : _ = (h d.0).back x w d.1 v e in (r.0, (d.0, r.1), r.2);
+  kept = λ V s x w d a. (h d.0).kept V s x w d.1 a;
+}

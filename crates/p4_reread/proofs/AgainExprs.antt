@@ -37,31 +37,8 @@ use Rattle.p4_grammar.specs.Values.{Env, has, later, of_cast, of_path, of_parens
 use Rattle.p4_grammar.specs.GrammarExpressions.{type_, path, slice, sliced, called_path, primary, casts, cast_front, unary_of, sum_of, chain_of, compare_of, and_of, or_of, choice_of, unary, expr_, expr, expression, expressions, args}
 use Rattle.p4_grammar.proofs.Basics.{tok, is_self, given_self}
 use Rattle.p4_reread.specs.Again.{lexemes}
-use Rattle.p4_reread.proofs.Again.{Parts, parts, one_token, All, Signs, all_join, Again, Says, says_bind, says_only, says_either, says_nothing, says_words, says_self, Spelt, all_true, sign-again, number-again, whole, step, last, fork, Onward, done, ends, words_step, list-again}
+use Rattle.p4_reread.proofs.Again.{Parts, parts, Around, around, sign_at, one_token, All, Signs, all_join, Again, Says, says_bind, says_only, says_either, says_nothing, says_words, says_self, Spelt, all_true, sign-again, number-again, whole, step, last, fork, Onward, done, ends, words_step, list-again}
 use Rattle.p4_reread.proofs.AgainPlain.{type-again, path-again, slice-again, called-again, names_tokens, called_tokens}
-
--- ---- tokens
-
--- a token with lexemes before and behind it
-record Around (a : List Lexeme) (l : Lexeme) (b : List Lexeme) (v : List Token) : Type 0 where
-  pub front : List Token
-  pub token : Token
-  pub behind : List Token
-  pub parted : v ≡ front ++ token ∷ behind
-  pub fronts : lexemes front ≡ a
-  pub here : token.lexeme ≡ l
-  pub behinds : lexemes behind ≡ b
-
-around : (a : List Lexeme) (l : Lexeme) (b : List Lexeme) (v : List Token) → lexemes v ≡ a ++ (l ∷ b) → Around a l b v
-around a l b v s =
-    let p : Parts a (l ∷ b) v = parts a (l ∷ b) v s in
-    let q : Parts (l ∷ []) b p.behind = parts (l ∷ []) b p.behind p.behinds in
-    let t : (t : Token) × (q.front ≡ t ∷ []) × (t.lexeme ≡ l) = one_token q.front l q.fronts in
-    record { front = p.front; token = t.0; behind = q.behind; parted = p.is ∙ ap (λ (r : List Token). p.front ++ r) (q.is ∙ ap (λ (r : List Token). r ++ q.behind) t.1); fronts = p.fronts; here = t.2; behinds = q.behinds }
-
--- the place of a sign
-sign_at : (s : Sign) (t : Token) → t.lexeme ≡ the s → is s t ≡ Ok t.at
-sign_at s t h = ap (sign_of s t.at) h ∙ given_self (code s) t.at
 
 -- ---- trees without their places
 

@@ -3,7 +3,11 @@ pub mod LexDigits
 pub mod Again
 pub mod AgainPlain
 pub mod AgainExprs
+pub mod AgainStatements
+pub mod AgainBlocks
+pub mod AgainDeclarations
+pub mod AgainTables
+pub mod AgainPrograms
 pub mod LexWords
 pub mod LexSigns
 pub mod LexAgain
-pub mod AgainStatements
