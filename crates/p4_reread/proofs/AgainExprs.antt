@@ -523,11 +523,15 @@ module _ (env : Env) where
   pub expr-again : Again (expr env) (λ x. expr_tokens x.expr) (λ x. bare_expr x.expr)
   expr-again = record { back = alone_back; kept = λ V s x w d a. (fine env V s x w d a).kept false }
 
-  operand_back : (x : Spelled) (w : List Token) → expr env x w → (v : List Token) → lexemes v ≡ operand_tokens x.expr → (y : Spelled) × expr env y v × (bare_expr y.expr ≡ bare_expr x.expr)
-  operand_back x w d v s =
+  -- A canonical operand doesn't end in a typedef's name alone in parentheses. So no rule on casts keeps `-` from following it.
+  pub operand_ends : (x : Spelled) (w : List Token) → expr env x w → (v : List Token) → lexemes v ≡ operand_tokens x.expr → Reread (expr env) is_bare x.expr v
+  operand_ends x w d v s =
       let f : Fine env (λ l. Unit {0}) x.expr = fine_always env x w d in
       let r : Reread (primary env (expr_ f.height env)) is_bare x.expr v = f.operand f.height (omega arith) v s in
-      (r.value, (suc f.height, alone_up f.height env r.value v (unary_up env f.height r.value v r.spelt)), r.same)
+      record { value = r.value; spelt = (suc f.height, alone_up f.height env r.value v (unary_up env f.height r.value v r.spelt)); same = r.same; mark = r.mark }
+
+  operand_back : (x : Spelled) (w : List Token) → expr env x w → (v : List Token) → lexemes v ≡ operand_tokens x.expr → (y : Spelled) × expr env y v × (bare_expr y.expr ≡ bare_expr x.expr)
+  operand_back x w d v s = let r : Reread (expr env) is_bare x.expr v = operand_ends x w d v s in (r.value, r.spelt, r.same)
 
   -- in parentheses where it isn't a value alone
   pub operand-again : Again (expr env) (λ x. operand_tokens x.expr) (λ x. bare_expr x.expr)
