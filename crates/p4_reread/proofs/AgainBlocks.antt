@@ -1,29 +1,27 @@
 -- Blocks, `if` and statements of any height are spelled again by their canonical tokens. There every branch is a block, so that an `else` is
 -- never given to another `if`.
-use Rattle.std.proofs.Common.{◌≡◌, ℕ, zero, suc, ◌+◌, ◌≤◌, Bool, true, false, cond, List, [], ◌∷◌, ◌++◌, map, Result, Ok, Err, Option, Some, None, refl, sym, ap, subst, ◌∙◌, append_assoc, append-nil, arith, inl, inr, ◌⊎◌}
-use Rattle.std.specs.Prelude.{codes, option_map}
+use Rattle.std.proofs.Common.{◌≡◌, ℕ, zero, suc, ◌+◌, ◌≤◌, Bool, true, false, List, [], ◌∷◌, ◌++◌, map, Ok, Option, Some, None, refl, sym, ap, subst, ◌∙◌, append-nil, arith, inl, inr}
+use Rattle.std.specs.Prelude.{option_map}
 use Rattle.std.specs.List.{AllByRecursion}
 use Rattle.std.proofs.lemmas.List.{map-append}
 use Rattle.p4_lex.specs.declared.token.Token.{Token}
-use Rattle.p4_lex.specs.declared.token.Sign.{Sign}
 use Rattle.p4_lex.specs.declared.token.Sign.TheVariants as sign
 use Rattle.p4_lex.specs.declared.token.Lexeme.{Lexeme}
-use Rattle.p4_lex.specs.declared.token.Lexeme.TheVariants as lexeme
 use Rattle.p4_ast.specs.declared.statement.P4Cond.{P4Cond}
 use Rattle.p4_ast.specs.declared.statement.P4Stmt.{P4Stmt}
 use Rattle.p4_ast.specs.declared.statement.P4Stmt.TheOpen.{P4Block-F, P4If-F}
 use Rattle.p4_ast.specs.declared.statement.P4Stmt.TheVariants as stmt
-use Rattle.p4_ast.specs.declared.statement.P4Block.{P4Block, roll-P4Block, out-P4Block, out-roll-P4Block}
-use Rattle.p4_ast.specs.declared.statement.P4If.{P4If, roll-P4If, out-P4If, out-roll-P4If}
-use Rattle.p4_ast.specs.BareStatements.{bare_cond, bare_stmt, bare_block, bare_if, bare_stmt_step, bare_block_step, bare_if_step}
+use Rattle.p4_ast.specs.declared.statement.P4Block.{P4Block, roll-P4Block, out-roll-P4Block}
+use Rattle.p4_ast.specs.declared.statement.P4If.{P4If, roll-P4If, out-roll-P4If}
+use Rattle.p4_ast.specs.BareStatements.{bare_cond, bare_stmt, bare_block, bare_stmt_step, bare_block_step, bare_if_step}
 use Rattle.p4_ast.proofs.Folds.{fold_stmt-Block, fold_stmt-If, fold_block, fold_if}
 use Rattle.p4_print.specs.Shared.{the, all}
-use Rattle.p4_print.specs.Statements.{cond_tokens, else_tokens, stmt_step, block_step, if_step, stmt_tokens, block_tokens, if_tokens}
+use Rattle.p4_print.specs.Statements.{cond_tokens, else_tokens, stmt_step, block_step, if_step, stmt_tokens, block_tokens}
 use Rattle.p4_print.proofs.Trees.{block-is, if-is}
 use Rattle.p4_grammar.specs.declared.mark.Piece.{Piece}
 use Rattle.p4_grammar.specs.declared.mark.Piece.TheVariants as piece
-use Rattle.p4_grammar.specs.Forms.{Lang, none, only, bind, either, taken, many, Spells}
-use Rattle.p4_grammar.specs.Tokens.{is, words}
+use Rattle.p4_grammar.specs.Forms.{Lang, only, bind, many}
+use Rattle.p4_grammar.specs.Tokens.{is}
 use Rattle.p4_grammar.specs.Values.{Env}
 use Rattle.p4_grammar.specs.Trees.{kept, kept_all, block_of, branch, is_open, opened, if_stmt, if_piece, if_else_piece, var_piece}
 use Rattle.p4_grammar.specs.GrammarStatements.{cond_, var, assign, read, write, keystmt, valid, apply, callstmt, block_of_stmts, else_, if_, stmt_of, stmts, stmt, block}

@@ -1,37 +1,31 @@
 -- Declarations, parameters and the parser are spelled again by their canonical tokens.
-use Rattle.std.proofs.Common.{◌≡◌, ℕ, zero, suc, Bool, true, false, cond, List, [], ◌∷◌, ◌++◌, map, Option, Some, None, refl, sym, ap, subst, ◌∙◌, append_assoc, append-nil}
-use Rattle.std.specs.Prelude.{codes, option_map}
+use Rattle.std.proofs.Common.{◌≡◌, ℕ, zero, suc, List, [], ◌∷◌, ◌++◌, map, Some, None, refl, sym, ap, subst, ◌∙◌, append_assoc, append-nil}
+use Rattle.std.specs.Prelude.{codes}
 use Rattle.std.proofs.lemmas.List.{map-append}
-use Rattle.p4_lex.specs.declared.token.Token.{Token}
 use Rattle.p4_lex.specs.declared.token.Sign.{Sign}
 use Rattle.p4_lex.specs.declared.token.Sign.TheVariants as sign
 use Rattle.p4_lex.specs.declared.token.Lexeme.{Lexeme}
-use Rattle.p4_lex.specs.declared.token.Lexeme.TheVariants as lexeme
 use Rattle.p4_ast.specs.declared.declaration.P4Field.{P4Field}
-use Rattle.p4_ast.specs.declared.declaration.P4Header.{P4Header}
 use Rattle.p4_ast.specs.declared.declaration.P4Declaration.{P4Declaration}
 use Rattle.p4_ast.specs.declared.declaration.P4Declaration.TheVariants as declaration
-use Rattle.p4_ast.specs.declared.control.P4Param.{P4Param}
-use Rattle.p4_ast.specs.declared.parser.P4State.{P4State}
 use Rattle.p4_ast.specs.declared.parser.P4Step.TheVariants as step
 use Rattle.p4_ast.specs.declared.parser.P4Target.TheVariants as target
 use Rattle.p4_ast.specs.declared.parser.P4Keyset.TheVariants as keyset
 use Rattle.p4_ast.specs.declared.parser.P4One.{P4One}
 use Rattle.p4_ast.specs.declared.parser.P4One.TheVariants as one
-use Rattle.p4_ast.specs.Bare.{bare_name, bare_field, bare_param, bare_expr}
-use Rattle.p4_ast.specs.BareProgram.{bare_header, bare_struct, bare_typedef, bare_const, bare_declaration, bare_one, bare_keyset, bare_case, bare_target, bare_extract, bare_step, bare_state, bare_parser}
+use Rattle.p4_ast.specs.Bare.{bare_field, bare_param, bare_expr}
+use Rattle.p4_ast.specs.BareProgram.{bare_header, bare_struct, bare_typedef, bare_const, bare_declaration, bare_one, bare_keyset, bare_case, bare_target, bare_step, bare_state, bare_parser}
 use Rattle.p4_print.specs.Shared.{the, all, separated, maybe, field_tokens, param_tokens, path_tokens, left_tokens, slice_tokens}
 use Rattle.p4_print.specs.Expressions.{expr_tokens, operand_tokens}
 use Rattle.p4_print.specs.Statements.{assign_tokens}
 use Rattle.p4_print.specs.Tables.{masked_tokens, one_tokens, keyset_tokens}
 use Rattle.p4_print.specs.Programs.{header_tokens, struct_tokens, typedef_tokens, const_tokens, declaration_tokens, case_tokens, select_tokens, target_tokens, extract_tokens, step_tokens, state_tokens, parameters_tokens, parser_tokens}
-use Rattle.p4_grammar.specs.Forms.{Lang, only, bind, either, taken, many, steps, Spells}
-use Rattle.p4_grammar.specs.Tokens.{is}
+use Rattle.p4_grammar.specs.Forms.{Lang, only, bind, steps}
 use Rattle.p4_grammar.specs.Values.{Env, known}
 use Rattle.p4_grammar.specs.Trees.{Declared, declared_more}
-use Rattle.p4_grammar.specs.GrammarExpressions.{expr, expression}
+use Rattle.p4_grammar.specs.GrammarExpressions.{expression}
 use Rattle.p4_grammar.specs.Grammar.{field, fields, header, struct_, typedef, const_, declaration_, declarations, param, one_, keyset_, extract, state_assign, step_, case_, select, target_, state, states, parser}
-use Rattle.p4_grammar.proofs.Languages.{Same, same, flip, same_bind, same_either, assoc, factor, bind_only, ◌then◌}
+use Rattle.p4_grammar.proofs.Languages.{Same, same, same_bind, same_either, assoc, factor, bind_only, ◌then◌}
 use Rattle.p4_reread.proofs.Again.{Again, Onward, whole, step, last, fork, onto, done, ends, sign-again, name-again, text-again, words_step, behind-again, many-again, again_same, onward_as, any-again}
 use Rattle.p4_reread.proofs.AgainPlain.{type-again, path-again, names_tokens}
 use Rattle.p4_reread.proofs.AgainExprs.{expr-again, operand-again, expression-again, expressions-again}

@@ -1,13 +1,11 @@
 -- Expressions are spelled again by their canonical tokens. There every operand is a value or stands in parentheses, so that none ends in a
 -- typedef's name in parentheses.
-use Rattle.std.proofs.Common.{◌≡◌, ℕ, zero, suc, ◌+◌, ◌≤◌, Bool, true, false, cond, List, [], ◌∷◌, ◌++◌, map, Result, Ok, Err, Option, Some, None, refl, sym, ap, subst, ◌∙◌, append_assoc, append-nil, arith, inl, inr, ◌⊎◌}
-use Rattle.std.specs.Prelude.{codes, max}
+use Rattle.std.proofs.Common.{◌≡◌, ℕ, zero, suc, ◌+◌, ◌≤◌, Bool, true, false, cond, List, [], ◌∷◌, ◌++◌, map, Result, Ok, refl, sym, ap, subst, ◌∙◌, append_assoc, append-nil, arith, inl, inr}
+use Rattle.std.specs.Prelude.{codes}
 use Rattle.std.specs.Str.{bytes_eq}
 use Rattle.p4_lex.specs.declared.token.Token.{Token}
-use Rattle.p4_lex.specs.declared.token.Sign.{Sign}
 use Rattle.p4_lex.specs.declared.token.Sign.TheVariants as sign
 use Rattle.p4_lex.specs.declared.token.Lexeme.{Lexeme}
-use Rattle.p4_lex.specs.declared.token.Lexeme.TheVariants as lexeme
 use Rattle.p4_ast.specs.declared.name.P4Name.{P4Name}
 use Rattle.p4_ast.specs.declared.name.P4Number.{P4Number}
 use Rattle.p4_ast.specs.declared.name.P4Path.{P4Path}
@@ -23,19 +21,17 @@ use Rattle.p4_ast.specs.declared.expression.P4Expr.TheVariants as expr
 use Rattle.p4_ast.specs.Bare.{bare_name, bare_number, bare_path, bare_slice, bare_type, bare_expr, bare_expr_step}
 use Rattle.p4_ast.proofs.Folds.{fold_expr-Choice, fold_expr-Binary, fold_expr-Unary, fold_expr-Cast, fold_expr-Slice, fold_expr-Number, fold_expr-True, fold_expr-False, fold_expr-Path, fold_expr-IsValid}
 use Rattle.p4_print.specs.Shared.{the, separated, number as number_lexeme, type_tokens, path_tokens, slice_tokens}
-use Rattle.p4_print.specs.Expressions.{binary_sign, unary_sign, where_so, wrapped, expr_step, expr_as, expr_tokens, operand_tokens, args_tokens}
+use Rattle.p4_print.specs.Expressions.{binary_sign, unary_sign, wrapped, expr_step, expr_as, expr_tokens, operand_tokens, args_tokens}
 use Rattle.p4_print.specs.Statements.{cast_tokens}
 use Rattle.p4_print.proofs.Trees.{as-Choice, as-Binary, as-Unary, as-Cast, as-Slice, as-Number, as-True, as-False, as-IsValid}
 use Rattle.p4_grammar.specs.declared.mark.Mark.{Mark}
 use Rattle.p4_grammar.specs.declared.mark.Mark.TheVariants as mark
 use Rattle.p4_grammar.specs.declared.mark.Spelled.{Spelled}
-use Rattle.p4_grammar.specs.declared.mark.ChainOp.{ChainOp}
-use Rattle.p4_grammar.specs.declared.mark.ChainOp.TheVariants as chains
-use Rattle.p4_grammar.specs.Forms.{Lang, none, only, bind, either, taken, chain, Spells}
-use Rattle.p4_grammar.specs.Tokens.{is, sign_of, name, number, words, code}
-use Rattle.p4_grammar.specs.Values.{Env, has, later, of_cast, of_path, of_parens, is_bare, first_at, path_of, path_value, valid_value, number_value, true_value, false_value, parens_value, slice_value, cast_value, unary_value, unary_lexeme, unary_op, binary, choice_value, this, compare_op, compare_lexeme, chain_op, chain_lexeme, again, chained, joined, sum_lexeme, sum_op}
+use Rattle.p4_grammar.specs.Forms.{Lang, none, only, taken, chain}
+use Rattle.p4_grammar.specs.Tokens.{is, number, words}
+use Rattle.p4_grammar.specs.Values.{Env, later, of_cast, of_path, of_parens, is_bare, first_at, path_of, path_value, valid_value, number_value, true_value, false_value, parens_value, slice_value, cast_value, unary_value, unary_lexeme, unary_op, binary, choice_value, this, some_op, compare_op, chain_op, sum_op}
 use Rattle.p4_grammar.specs.GrammarExpressions.{type_, path, slice, sliced, called_path, primary, casts, cast_front, unary_of, sum_of, chain_of, compare_of, and_of, or_of, choice_of, unary, expr_, expr, expression, expressions, args}
-use Rattle.p4_grammar.proofs.Basics.{tok, is_self, given_self}
+use Rattle.p4_grammar.proofs.Basics.{tok, is_self}
 use Rattle.p4_reread.specs.Again.{lexemes}
 use Rattle.p4_reread.proofs.Again.{Parts, parts, Around, around, sign_at, one_token, All, Signs, all_join, Again, Says, says_bind, says_only, says_either, says_nothing, says_words, says_self, Spelt, all_true, sign-again, number-again, whole, step, last, fork, Onward, done, ends, words_step, list-again}
 use Rattle.p4_reread.proofs.AgainPlain.{type-again, path-again, slice-again, called-again, names_tokens, called_tokens}
@@ -164,29 +160,29 @@ module _ (j : ℕ) (U : Lang Spelled) (x y : Spelled) (t : Token) (u v : List To
   unfolding sum_of
   sum_two o h = over_compare (binary o x y) (u ++ t ∷ v) (compare_up (suc j) U (binary o x y) (u ++ t ∷ v) (x, u, t ∷ v, refl, d, pair j sum_op binary U x y o t v h e))
 
-  chain_two : (o : ChainOp) → chain_op t ≡ Ok o → or_of n U (binary (joined o) x y) (u ++ t ∷ v)
+  chain_two : (o : P4BinaryOp) → chain_op t ≡ Ok o → or_of n U (binary o x y) (u ++ t ∷ v)
   unfolding compare_of chain_of
-  chain_two o h = over_compare (binary (joined o) x y) (u ++ t ∷ v) (inr (x, u, t ∷ v, refl, d, (o, t ∷ [], v, refl, (t, refl, h), (y, v, [], sym (append-nil v), e, inr (refl, refl)))))
+  chain_two o h = over_compare (binary o x y) (u ++ t ∷ v) (inr (x, u, t ∷ v, refl, d, (o, t ∷ [], v, refl, (t, refl, h), (y, v, [], sym (append-nil v), e, inr (refl, refl)))))
 
   two : (o : P4BinaryOp) → is_bare x.mark ≡ false → t.lexeme ≡ the (binary_sign o) → or_of n U (binary o x y) (u ++ t ∷ v)
   two binary_op.Or m h = or_two h
   two binary_op.And m h = and_two h
-  two binary_op.Equal m h = compare_two binary_op.Equal (ap compare_lexeme h)
-  two binary_op.NotEqual m h = compare_two binary_op.NotEqual (ap compare_lexeme h)
-  two binary_op.Less m h = compare_two binary_op.Less (ap compare_lexeme h)
-  two binary_op.LessEqual m h = compare_two binary_op.LessEqual (ap compare_lexeme h)
-  two binary_op.More m h = compare_two binary_op.More (ap compare_lexeme h)
-  two binary_op.MoreEqual m h = compare_two binary_op.MoreEqual (ap compare_lexeme h)
-  two binary_op.Plus m h = sum_two binary_op.Plus (ap (sum_lexeme (is_bare x.mark)) h ∙ ap (λ (q : Bool). sum_lexeme q (the sign.Plus)) m)
-  two binary_op.Minus m h = sum_two binary_op.Minus (ap (sum_lexeme (is_bare x.mark)) h ∙ ap (λ (q : Bool). sum_lexeme q (the sign.Minus)) m)
-  two binary_op.SatPlus m h = chain_two chains.SatPlus (ap chain_lexeme h)
-  two binary_op.SatMinus m h = chain_two chains.SatMinus (ap chain_lexeme h)
-  two binary_op.BitAnd m h = chain_two chains.BitAnd (ap chain_lexeme h)
-  two binary_op.BitOr m h = chain_two chains.BitOr (ap chain_lexeme h)
-  two binary_op.BitXor m h = chain_two chains.BitXor (ap chain_lexeme h)
-  two binary_op.ShiftLeft m h = chain_two chains.ShiftLeft (ap chain_lexeme h)
-  two binary_op.ShiftRight m h = chain_two chains.ShiftRight (ap chain_lexeme h)
-  two binary_op.Concat m h = chain_two chains.Concat (ap chain_lexeme h)
+  two binary_op.Equal m h = compare_two binary_op.Equal (ap (λ (l : Lexeme). compare_op (tok t.at t.end l)) h)
+  two binary_op.NotEqual m h = compare_two binary_op.NotEqual (ap (λ (l : Lexeme). compare_op (tok t.at t.end l)) h)
+  two binary_op.Less m h = compare_two binary_op.Less (ap (λ (l : Lexeme). compare_op (tok t.at t.end l)) h)
+  two binary_op.LessEqual m h = compare_two binary_op.LessEqual (ap (λ (l : Lexeme). compare_op (tok t.at t.end l)) h)
+  two binary_op.More m h = compare_two binary_op.More (ap (λ (l : Lexeme). compare_op (tok t.at t.end l)) h)
+  two binary_op.MoreEqual m h = compare_two binary_op.MoreEqual (ap (λ (l : Lexeme). compare_op (tok t.at t.end l)) h)
+  two binary_op.Plus m h = sum_two binary_op.Plus (ap (λ (l : Lexeme). sum_op x (tok t.at t.end l)) h ∙ ap (λ (q : Bool). some_op (cond q (binary_op.Plus ∷ []) (binary_op.Plus ∷ binary_op.Minus ∷ [])) (tok t.at t.end (the sign.Plus))) m)
+  two binary_op.Minus m h = sum_two binary_op.Minus (ap (λ (l : Lexeme). sum_op x (tok t.at t.end l)) h ∙ ap (λ (q : Bool). some_op (cond q (binary_op.Plus ∷ []) (binary_op.Plus ∷ binary_op.Minus ∷ [])) (tok t.at t.end (the sign.Minus))) m)
+  two binary_op.SatPlus m h = chain_two binary_op.SatPlus (ap (λ (l : Lexeme). chain_op (tok t.at t.end l)) h)
+  two binary_op.SatMinus m h = chain_two binary_op.SatMinus (ap (λ (l : Lexeme). chain_op (tok t.at t.end l)) h)
+  two binary_op.BitAnd m h = chain_two binary_op.BitAnd (ap (λ (l : Lexeme). chain_op (tok t.at t.end l)) h)
+  two binary_op.BitOr m h = chain_two binary_op.BitOr (ap (λ (l : Lexeme). chain_op (tok t.at t.end l)) h)
+  two binary_op.BitXor m h = chain_two binary_op.BitXor (ap (λ (l : Lexeme). chain_op (tok t.at t.end l)) h)
+  two binary_op.ShiftLeft m h = chain_two binary_op.ShiftLeft (ap (λ (l : Lexeme). chain_op (tok t.at t.end l)) h)
+  two binary_op.ShiftRight m h = chain_two binary_op.ShiftRight (ap (λ (l : Lexeme). chain_op (tok t.at t.end l)) h)
+  two binary_op.Concat m h = chain_two binary_op.Concat (ap (λ (l : Lexeme). chain_op (tok t.at t.end l)) h)
 
 -- ---- casts
 
@@ -485,7 +481,7 @@ module _ (env : Env) (V : Lexeme → Type 0) (signs : Signs V) where
   unfolding compare_of chain_of
   compare_fine k U h = says_either
       (says_bind (sum_fine k U h) λ x f. says_either (says_bind says_nothing λ o d. says_bind (sum_fine k U h) λ y g. says_only (both o x y f g)) (says_only f))
-      (says_bind h λ x f. says_bind says_nothing λ o d. says_bind h λ y g. chain_fine k (λ z. again o) chained U (λ o x y. both (joined o) x y) h (chained o x y) (both (joined o) x y f g))
+      (says_bind h λ x f. says_bind says_nothing λ o d. says_bind h λ y g. chain_fine k (λ z. this o) binary U both h (binary o x y) (both o x y f g))
 
   or_fine : (k : ℕ) (U : Lang Spelled) → Says V U FineOf → Says V (or_of k U) FineOf
   unfolding or_of and_of
@@ -527,11 +523,15 @@ module _ (env : Env) where
   pub expr-again : Again (expr env) (λ x. expr_tokens x.expr) (λ x. bare_expr x.expr)
   expr-again = record { back = alone_back; kept = λ V s x w d a. (fine env V s x w d a).kept false }
 
-  operand_back : (x : Spelled) (w : List Token) → expr env x w → (v : List Token) → lexemes v ≡ operand_tokens x.expr → (y : Spelled) × expr env y v × (bare_expr y.expr ≡ bare_expr x.expr)
-  operand_back x w d v s =
+  -- A canonical operand doesn't end in a typedef's name alone in parentheses. So no rule on casts keeps `-` from following it.
+  pub operand_ends : (x : Spelled) (w : List Token) → expr env x w → (v : List Token) → lexemes v ≡ operand_tokens x.expr → Reread (expr env) is_bare x.expr v
+  operand_ends x w d v s =
       let f : Fine env (λ l. Unit {0}) x.expr = fine_always env x w d in
       let r : Reread (primary env (expr_ f.height env)) is_bare x.expr v = f.operand f.height (omega arith) v s in
-      (r.value, (suc f.height, alone_up f.height env r.value v (unary_up env f.height r.value v r.spelt)), r.same)
+      record { value = r.value; spelt = (suc f.height, alone_up f.height env r.value v (unary_up env f.height r.value v r.spelt)); same = r.same; mark = r.mark }
+
+  operand_back : (x : Spelled) (w : List Token) → expr env x w → (v : List Token) → lexemes v ≡ operand_tokens x.expr → (y : Spelled) × expr env y v × (bare_expr y.expr ≡ bare_expr x.expr)
+  operand_back x w d v s = let r : Reread (expr env) is_bare x.expr v = operand_ends x w d v s in (r.value, r.spelt, r.same)
 
   -- in parentheses where it isn't a value alone
   pub operand-again : Again (expr env) (λ x. operand_tokens x.expr) (λ x. bare_expr x.expr)

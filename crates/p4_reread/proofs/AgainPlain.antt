@@ -1,17 +1,14 @@
 -- Types, paths and slices are spelled again by their canonical tokens.
-use Rattle.std.proofs.Common.{◌≡◌, ℕ, Bool, true, false, cond, List, [], ◌∷◌, ◌++◌, map, Option, Some, None, refl, sym, ap, subst, ◌∙◌}
+use Rattle.std.proofs.Common.{ℕ, List, [], ◌∷◌, ◌++◌, map, refl, ap}
 use Rattle.p4_lex.specs.declared.token.Sign.TheVariants as sign
 use Rattle.p4_lex.specs.declared.token.Lexeme.{Lexeme}
 use Rattle.p4_lex.specs.declared.token.Lexeme.TheVariants as lexeme
 use Rattle.p4_ast.specs.declared.name.P4Name.{P4Name}
-use Rattle.p4_ast.specs.declared.name.P4Slice.{P4Slice}
-use Rattle.p4_ast.specs.declared.declaration.P4Type.{P4Type}
 use Rattle.p4_ast.specs.declared.declaration.P4Type.TheVariants as type
-use Rattle.p4_ast.specs.Bare.{bare_name, bare_number, bare_slice, bare_type}
-use Rattle.p4_grammar.specs.Forms.{Lang}
+use Rattle.p4_ast.specs.Bare.{bare_name, bare_slice, bare_type}
 use Rattle.p4_grammar.specs.GrammarExpressions.{bit_type, bool_type, std_type, word_type, name_type, type_, names, path, slice, called_path}
 use Rattle.p4_print.specs.Shared.{the, separated, name_tokens, type_tokens, slice_tokens}
-use Rattle.p4_reread.proofs.Again.{Again, whole, step, last, fork, onto, done, ends, sign-again, name-again, number-again, text-again, words_step, list-again}
+use Rattle.p4_reread.proofs.Again.{Again, whole, step, fork, done, sign-again, name-again, number-again, text-again, words_step, list-again}
 
 pub type-again : Again type_ type_tokens bare_type
 unfolding type_ word_type bit_type bool_type std_type name_type type_tokens

@@ -1,5 +1,5 @@
 -- The ingress control, the deparser, the package and the program are spelled again by their canonical tokens.
-use Rattle.std.proofs.Common.{◌≡◌, ℕ, Bool, true, false, List, [], ◌∷◌, ◌++◌, map, Result, Ok, Err, Option, Some, None, refl, sym, ap, subst, ◌∙◌, append_assoc, append-nil, inl, inr, ◌⊎◌}
+use Rattle.std.proofs.Common.{◌≡◌, List, [], ◌∷◌, ◌++◌, map, Option, Some, refl, sym, ap, subst, append_assoc, inl, inr, ◌⊎◌}
 use Rattle.std.specs.Prelude.{codes, option_map}
 use Rattle.p4_lex.specs.declared.token.Token.{Token}
 use Rattle.p4_lex.specs.declared.token.Sign.TheVariants as sign
@@ -18,22 +18,22 @@ use Rattle.p4_ast.specs.declared.control.P4Cell.TheVariants as cell
 use Rattle.p4_ast.specs.declared.program.P4Program.{P4Program}
 use Rattle.p4_ast.specs.Bare.{bare_name, bare_type, bare_field, bare_param}
 use Rattle.p4_ast.specs.BareProgram.{bare_declaration, bare_action, bare_cell, bare_local, bare_ingress, bare_emit, bare_deparser, bare_package, bare_program}
-use Rattle.p4_print.specs.Shared.{the, named, all, separated, maybe, type_tokens, path_tokens, argument_tokens, param_tokens, name_tokens}
+use Rattle.p4_print.specs.Shared.{the, named, all, separated, maybe, type_tokens, path_tokens, argument_tokens}
 use Rattle.p4_print.specs.Statements.{block_tokens}
-use Rattle.p4_print.specs.Programs.{declaration_tokens, cell_tokens, action_tokens, local_tokens, rp_tokens, inputs_tokens, ingress_tokens, emit_tokens, deparser_tokens, part_tokens, package_tokens, program_tokens, parser_tokens}
+use Rattle.p4_print.specs.Programs.{declaration_tokens, cell_tokens, action_tokens, local_tokens, rp_tokens, inputs_tokens, ingress_tokens, emit_tokens, deparser_tokens, part_tokens, package_tokens, program_tokens}
 use Rattle.p4_grammar.specs.Forms.{Lang, only, bind, either, taken}
 use Rattle.p4_grammar.specs.Tokens.{is, number, words}
 use Rattle.p4_grammar.specs.Values.{Env}
 use Rattle.p4_grammar.specs.Trees.{Declared, program_of}
 use Rattle.p4_grammar.specs.GrammarExpressions.{type_, bit_type, word_type}
-use Rattle.p4_grammar.specs.Grammar.{declarations, parser, closed_type, flow_cell, flow_array, typed, typed_list, action, local_, last_param, ingress, emit, deparser, instance_, package_, program}
-use Rattle.p4_grammar.proofs.Basics.{tok, is_self}
+use Rattle.p4_grammar.specs.Grammar.{parser, closed_type, flow_cell, flow_array, typed, typed_list, action, local_, last_param, ingress, emit, deparser, instance_, package_, program}
+use Rattle.p4_grammar.proofs.Basics.{tok}
 use Rattle.p4_reread.specs.Again.{lexemes}
-use Rattle.p4_reread.proofs.Again.{all_parts, All, Signs, all_join, Again, Onward, whole, step, last, fork, onto, done, ends, sign-again, name-again, number-again, text-again, words_step, behind-again, many-again}
+use Rattle.p4_reread.proofs.Again.{all_parts, All, Signs, Again, Onward, whole, step, last, fork, done, ends, sign-again, name-again, number-again, text-again, words_step, behind-again, many-again}
 use Rattle.p4_reread.proofs.AgainPlain.{type-again, path-again}
 use Rattle.p4_reread.proofs.AgainStatements.{var-again}
 use Rattle.p4_reread.proofs.AgainBlocks.{block-again}
-use Rattle.p4_reread.proofs.AgainDeclarations.{const-again, bare_declared, declared_tokens, declarations-again, param-again, parser-again}
+use Rattle.p4_reread.proofs.AgainDeclarations.{const-again, declared_tokens, declarations-again, param-again, parser-again}
 use Rattle.p4_reread.proofs.AgainTables.{table-again}
 
 -- ---- cells

@@ -1,12 +1,10 @@
 -- Statements other than blocks and `if` are spelled again by their canonical tokens.
-use Rattle.std.proofs.Common.{◌≡◌, ℕ, Bool, true, false, cond, List, [], ◌∷◌, ◌++◌, map, Option, Some, None, refl, sym, ap, subst, ◌∙◌, append_assoc, append-nil}
+use Rattle.std.proofs.Common.{◌≡◌, Bool, true, false, List, [], ◌∷◌, ◌++◌, map, Option, Some, None, refl, sym, ap, ◌∙◌, append_assoc}
 use Rattle.std.specs.Prelude.{codes, option_map}
 use Rattle.p4_lex.specs.declared.token.Sign.TheVariants as sign
 use Rattle.p4_lex.specs.declared.token.Lexeme.{Lexeme}
 use Rattle.p4_lex.specs.declared.token.Lexeme.TheVariants as lexeme
 use Rattle.p4_ast.specs.declared.name.P4Name.{P4Name}
-use Rattle.p4_ast.specs.declared.name.P4Left.{P4Left}
-use Rattle.p4_ast.specs.declared.declaration.P4Type.{P4Type}
 use Rattle.p4_ast.specs.declared.expression.P4Expr.{P4Expr}
 use Rattle.p4_ast.specs.declared.control.P4Var.{P4Var}
 use Rattle.p4_ast.specs.declared.statement.P4Assign.{P4Assign}
@@ -18,10 +16,8 @@ use Rattle.p4_ast.specs.declared.statement.P4Validity.{P4Validity}
 use Rattle.p4_ast.specs.declared.statement.P4Validity.TheVariants as validity
 use Rattle.p4_ast.specs.declared.statement.P4Apply.{P4Apply}
 use Rattle.p4_ast.specs.declared.statement.P4Callstmt.{P4Callstmt}
-use Rattle.p4_ast.specs.declared.statement.P4Cond.{P4Cond}
 use Rattle.p4_ast.specs.declared.statement.P4Cond.TheVariants as condition
 use Rattle.p4_ast.specs.declared.statement.P4Outcome.{P4Outcome}
-use Rattle.p4_ast.specs.declared.statement.P4Outcome.TheVariants as outcome
 use Rattle.p4_ast.specs.declared.statement.P4Stmt.{P4Stmt}
 use Rattle.p4_ast.specs.declared.statement.P4Stmt.TheVariants as stmt
 use Rattle.p4_ast.specs.declared.statement.P4Block.{P4Block}
@@ -29,16 +25,16 @@ use Rattle.p4_ast.specs.declared.statement.P4If.{P4If}
 use Rattle.p4_ast.specs.Bare.{bare_name, bare_left, bare_type, bare_expr, bare_slice}
 use Rattle.p4_ast.specs.BareStatements.{bare_var, bare_assign, bare_read, bare_write, bare_keystmt, bare_valid, bare_apply, bare_callstmt, bare_cond, bare_stmt, bare_stmt_step, bare_block_step, bare_if_step}
 use Rattle.p4_ast.proofs.Folds.{fold_stmt-Var, fold_stmt-Assign, fold_stmt-Read, fold_stmt-Write, fold_stmt-Keystmt, fold_stmt-Valid, fold_stmt-Apply, fold_stmt-Callstmt}
-use Rattle.p4_print.specs.Shared.{the, named, maybe, path_tokens, left_tokens, slice_tokens}
-use Rattle.p4_print.specs.Expressions.{where_so, expr_tokens, args_tokens}
+use Rattle.p4_print.specs.Shared.{the, maybe, path_tokens, left_tokens, slice_tokens}
+use Rattle.p4_print.specs.Expressions.{expr_tokens}
 use Rattle.p4_print.specs.Statements.{var_tokens, assign_tokens, cast_tokens, read_tokens, write_tokens, keystmt_tokens, validity_name, valid_tokens, apply_tokens, callstmt_tokens, outcome_name, applied_tokens, cond_tokens, stmt_step, block_step, if_step, stmt_tokens}
 use Rattle.p4_grammar.specs.declared.mark.Piece.{Piece}
 use Rattle.p4_grammar.specs.declared.mark.Piece.TheVariants as piece
-use Rattle.p4_grammar.specs.Forms.{Lang, only, bind}
+use Rattle.p4_grammar.specs.Forms.{only, bind}
 use Rattle.p4_grammar.specs.Values.{Env, first_at, path_of}
-use Rattle.p4_grammar.specs.Trees.{left_of, var_piece}
+use Rattle.p4_grammar.specs.Trees.{var_piece}
 use Rattle.p4_grammar.specs.GrammarStatements.{outcome_, table_cond, not_table_cond, cond_, var, slice_or_none, left, assign, cast_or_none, index, read, write, keystmt, valid, apply, callstmt}
-use Rattle.p4_reread.proofs.Again.{Again, whole, step, last, fork, onto, done, ends, sign-again, name-again, text-again, words_step, option-again, Says, says_bind, says_only, says_either, says_nothing, says_words}
+use Rattle.p4_reread.proofs.Again.{Again, whole, step, last, fork, done, ends, sign-again, name-again, text-again, words_step, option-again, Says, says_bind, says_only, says_either, says_nothing, says_words}
 use Rattle.p4_reread.proofs.AgainPlain.{type-again, path-again, slice-again, called-again, called_tokens, names_tokens}
 use Rattle.p4_reread.proofs.AgainExprs.{cast_front-again, expr-again, expression-again, args-again}
 

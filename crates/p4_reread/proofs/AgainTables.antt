@@ -1,35 +1,30 @@
 -- Tables are spelled again by their canonical tokens: their properties stand there in the order of the grammar, and a call has its parentheses.
-use Rattle.std.proofs.Common.{◌≡◌, ℕ, zero, suc, Bool, true, false, cond, List, [], ◌∷◌, ◌++◌, map, Result, Ok, Err, Option, Some, None, refl, sym, ap, subst, ◌∙◌, append_assoc, append-nil, inl, inr, ◌⊎◌}
+use Rattle.std.proofs.Common.{◌≡◌, ℕ, zero, suc, Bool, true, false, List, [], ◌∷◌, ◌++◌, map, Option, Some, None, refl, sym, ap, subst, ◌∙◌, append_assoc, append-nil, inl, inr, ◌⊎◌}
 use Rattle.std.specs.Prelude.{option_map}
 use Rattle.p4_lex.specs.declared.token.Token.{Token}
-use Rattle.p4_lex.specs.declared.token.Sign.{Sign}
 use Rattle.p4_lex.specs.declared.token.Sign.TheVariants as sign
 use Rattle.p4_lex.specs.declared.token.Lexeme.{Lexeme}
 use Rattle.p4_lex.specs.declared.token.Lexeme.TheVariants as lexeme
-use Rattle.p4_ast.specs.declared.name.P4Name.{P4Name}
 use Rattle.p4_ast.specs.declared.expression.P4Expr.{P4Expr}
-use Rattle.p4_ast.specs.declared.table.P4Match.{P4Match}
-use Rattle.p4_ast.specs.declared.table.P4Match.TheVariants as matching
 use Rattle.p4_ast.specs.declared.table.P4Default.{P4Default}
 use Rattle.p4_ast.specs.declared.table.P4Entries.{P4Entries}
 use Rattle.p4_ast.specs.declared.table.P4Size.{P4Size}
-use Rattle.p4_ast.specs.declared.table.P4Call.{P4Call}
-use Rattle.p4_ast.specs.Bare.{bare_name, bare_number, bare_expr}
+use Rattle.p4_ast.specs.Bare.{bare_name, bare_expr}
 use Rattle.p4_ast.specs.BareProgram.{bare_call, bare_key, bare_keys, bare_acts, bare_default, bare_entry, bare_entries, bare_size, bare_table}
-use Rattle.p4_print.specs.Shared.{the, all, separated, maybe}
-use Rattle.p4_print.specs.Expressions.{where_so, expr_tokens, args_tokens}
+use Rattle.p4_print.specs.Shared.{the, maybe}
+use Rattle.p4_print.specs.Expressions.{where_so, args_tokens}
 use Rattle.p4_print.specs.Tables.{match_sign, key_tokens, keys_tokens, act_tokens, acts_tokens, call_tokens, default_tokens, entry_tokens, entries_tokens, size_tokens, table_tokens}
 use Rattle.p4_grammar.specs.declared.mark.Properties.{Properties}
-use Rattle.p4_grammar.specs.Forms.{Lang, none, only, bind, either, taken, many, steps, option, Spells}
-use Rattle.p4_grammar.specs.Tokens.{is, words}
+use Rattle.p4_grammar.specs.Forms.{Lang, only, either, steps, option}
+use Rattle.p4_grammar.specs.Tokens.{is}
 use Rattle.p4_grammar.specs.Values.{Env}
-use Rattle.p4_grammar.specs.Trees.{no_properties, is_none, with_default, with_entries, with_size, start_of, is_const}
+use Rattle.p4_grammar.specs.Trees.{no_properties, is_none, is_const}
 use Rattle.p4_grammar.specs.GrammarExpressions.{args}
 use Rattle.p4_grammar.specs.Grammar.{match_, key, keys, act, acts, call, default_of, entry, entries_of, size, const_or_none, default, entries, property, properties, table}
-use Rattle.p4_grammar.proofs.Languages.{Same, same, flip, same_bind, same_either, dist, bind_only, ◌then◌}
+use Rattle.p4_grammar.proofs.Languages.{same, same_bind, same_either, dist, bind_only, ◌then◌}
 use Rattle.p4_grammar.proofs.Basics.{tok, is_self}
 use Rattle.p4_reread.specs.Again.{lexemes}
-use Rattle.p4_reread.proofs.Again.{Parts, parts, none_at, All, Signs, all_join, Again, Onward, whole, step, last, fork, onto, done, ends, sign-again, name-again, number-again, words_step, many-again, again_same, Says, says_bind, says_only, says_either, says_self, Spelt, all_true}
+use Rattle.p4_reread.proofs.Again.{Parts, parts, none_at, All, Signs, all_join, Again, whole, step, last, fork, done, ends, sign-again, name-again, number-again, words_step, many-again, again_same, Says, says_bind, says_only, says_either, says_self, Spelt, all_true}
 use Rattle.p4_reread.proofs.AgainExprs.{expr-again, args-again}
 use Rattle.p4_reread.proofs.AgainDeclarations.{keyset-again}
 

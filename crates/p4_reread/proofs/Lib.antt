@@ -11,3 +11,4 @@ pub mod AgainPrograms
 pub mod LexWords
 pub mod LexSigns
 pub mod LexAgain
+pub mod TextAgain
