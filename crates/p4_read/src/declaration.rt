@@ -1,0 +1,195 @@
+//! What stands before the parser.
+ghost use Rattle.std.specs.Prelude.{◌≡◌, ◌∷◌};
+ghost use Rattle.p4_grammar.specs.Forms.{Gives, hand};
+ghost use Rattle.p4_grammar.specs.Values.{known};
+ghost use Rattle.p4_grammar.specs.ReadingExpressions.{expressions_at, args_at};
+ghost use Rattle.p4_grammar.specs.Reading.{fields_at, header_at, struct_at, typedef_at, const_at, declaration_at, begins_declaration};
+ghost use Rattle.p4_read.specs.Made.{Makes};
+
+use crate::expression::expr_of;
+use crate::name::{place_of_type, type_of};
+use crate::part::{Part, joined, parts_behind, parts_until};
+use crate::token::{Reading, is_next, name_of, sign_of};
+use crate::value::Made;
+use p4_ast::{P4Const, P4Declaration, P4Expr, P4Field, P4Header, P4Struct, P4Typedef};
+use p4_lex::{Sign, Token};
+use rp_base::Bytes;
+use sqlite_items::Items;
+use std::alloc::Global;
+
+impl Part for P4Expr {
+    ghost use Rattle.p4_grammar.specs.ReadingExpressions.{expression_at};
+
+    ghost reader = { expression_at };
+
+    #[tactic(auto, unfolding(p4_grammar::specs::ReadingExpressions::expression_at))]
+    fn read<'a>(
+        alloc: Global,
+        fuel: usize,
+        env: &[Bytes],
+        tokens: &'a [Token],
+    ) -> Reading<'a, P4Expr> {
+        let (value, rest) = expr_of(alloc, fuel, env, tokens)?;
+        Ok((value.expr, rest))
+    }
+}
+
+/// Reads expressions with commas between them, one at least.
+#[tactic(auto, unfolding(p4_grammar::specs::ReadingExpressions::expressions_at))]
+pub fn expressions_of<'a>(
+    alloc: Global,
+    fuel: usize,
+    env: &[Bytes],
+    tokens: &'a [Token],
+) -> Reading<'a, Items<P4Expr>>
+    ensures { Gives (λ x. (x.0, x.1.now)) (λ e. e.now) result (expressions_at fuel env.now tokens.now) }
+{
+    let (first, rest) = P4Expr::read(alloc, fuel, env, tokens)?;
+    let (more, rest) = parts_behind(alloc, fuel, env, rest)?;
+    let exprs = joined(alloc, first, more)?;
+    Ok((exprs, rest))
+}
+
+/// Reads arguments in parentheses.
+#[tactic(auto, unfolding(p4_grammar::specs::ReadingExpressions::args_at))]
+pub fn args_of<'a>(
+    alloc: Global,
+    fuel: usize,
+    env: &[Bytes],
+    tokens: &'a [Token],
+) -> Reading<'a, Items<P4Expr>>
+    ensures { Gives (λ x. (x.0, x.1.now)) (λ e. e.now) result (args_at fuel env.now tokens.now) }
+{
+    let (_, rest) = sign_of(Sign::Open, tokens)?;
+    if is_next(Sign::Close, rest) {
+        let (_, rest) = sign_of(Sign::Close, rest)?;
+        return Ok((Items::new(alloc), rest));
+    }
+    let (args, rest) = expressions_of(alloc, fuel, env, rest)?;
+    let (_, rest) = sign_of(Sign::Close, rest)?;
+    Ok((args, rest))
+}
+
+impl Part for P4Field {
+    ghost use Rattle.p4_grammar.specs.Reading.{field_at};
+
+    ghost reader = { λ n env. field_at };
+
+    #[tactic(auto, unfolding(p4_grammar::specs::Reading::field_at))]
+    fn read<'a>(
+        _alloc: Global,
+        _fuel: usize,
+        _env: &[Bytes],
+        tokens: &'a [Token],
+    ) -> Reading<'a, P4Field> {
+        let (type_, rest) = type_of(tokens)?;
+        let (name, rest) = name_of(rest)?;
+        let (_, rest) = sign_of(Sign::Semicolon, rest)?;
+        let at = place_of_type(&type_);
+        Ok((P4Field { at, type_, name }, rest))
+    }
+}
+
+#[tactic(auto, unfolding(p4_grammar::specs::Reading::fields_at))]
+fn fields_of<'a>(alloc: Global, fuel: usize, tokens: &'a [Token]) -> Reading<'a, Items<P4Field>>
+    ensures { Gives (λ x. (x.0, x.1.now)) (λ e. e.now) result (fields_at fuel tokens.now) }
+{
+    let (_, rest) = sign_of(Sign::OpenBrace, tokens)?;
+    let (fields, rest) = parts_until(alloc, Sign::CloseBrace, fuel, &[], rest)?;
+    let (_, rest) = sign_of(Sign::CloseBrace, rest)?;
+    Ok((fields, rest))
+}
+
+#[tactic(auto, unfolding(p4_grammar::specs::Reading::header_at))]
+fn header_of(alloc: Global, fuel: usize, tokens: &[Token]) -> Reading<'_, P4Header>
+    ensures { Gives (λ x. (x.0, x.1.now)) (λ e. e.now) result (header_at fuel tokens.now) }
+{
+    let (at, rest) = sign_of(Sign::Header, tokens)?;
+    let (name, rest) = name_of(rest)?;
+    let (fields, rest) = fields_of(alloc, fuel, rest)?;
+    Ok((P4Header { at, name, fields }, rest))
+}
+
+#[tactic(auto, unfolding(p4_grammar::specs::Reading::struct_at))]
+fn struct_of(alloc: Global, fuel: usize, tokens: &[Token]) -> Reading<'_, P4Struct>
+    ensures { Gives (λ x. (x.0, x.1.now)) (λ e. e.now) result (struct_at fuel tokens.now) }
+{
+    let (at, rest) = sign_of(Sign::Struct, tokens)?;
+    let (name, rest) = name_of(rest)?;
+    let (fields, rest) = fields_of(alloc, fuel, rest)?;
+    Ok((P4Struct { at, name, fields }, rest))
+}
+
+#[tactic(auto, unfolding(p4_grammar::specs::Reading::typedef_at))]
+fn typedef_of(tokens: &[Token]) -> Reading<'_, P4Typedef>
+    ensures { Gives (λ x. (x.0, x.1.now)) (λ e. e.now) result (typedef_at tokens.now) }
+{
+    let (at, rest) = sign_of(Sign::Typedef, tokens)?;
+    let (type_, rest) = type_of(rest)?;
+    let (name, rest) = name_of(rest)?;
+    let (_, rest) = sign_of(Sign::Semicolon, rest)?;
+    Ok((P4Typedef { at, type_, name }, rest))
+}
+
+/// Reads a constant.
+#[tactic(auto, unfolding(p4_grammar::specs::Reading::const_at))]
+pub fn const_of<'a>(
+    alloc: Global,
+    fuel: usize,
+    env: &[Bytes],
+    tokens: &'a [Token],
+) -> Reading<'a, P4Const>
+    ensures { Gives (λ x. (x.0, x.1.now)) (λ e. e.now) result (const_at fuel env.now tokens.now) }
+{
+    let (at, rest) = sign_of(Sign::Const, tokens)?;
+    let (type_, rest) = type_of(rest)?;
+    let (name, rest) = name_of(rest)?;
+    let (_, rest) = sign_of(Sign::Assign, rest)?;
+    let (expr, rest) = P4Expr::read(alloc, fuel, env, rest)?;
+    let (_, rest) = sign_of(Sign::Semicolon, rest)?;
+    Ok((
+        P4Const {
+            at,
+            type_,
+            name,
+            expr,
+        },
+        rest,
+    ))
+}
+
+/// Reads a declaration.
+#[tactic(auto, unfolding(p4_grammar::specs::Reading::declaration_at))]
+pub fn declaration_of<'a>(
+    alloc: Global,
+    fuel: usize,
+    env: &[Bytes],
+    tokens: &'a [Token],
+) -> Reading<'a, P4Declaration>
+    ensures { Gives (λ x. (x.0, x.1.now)) (λ e. e.now) result (declaration_at fuel env.now tokens.now) }
+{
+    if is_next(Sign::Header, tokens) {
+        let (header, rest) = header_of(alloc, fuel, tokens)?;
+        return Ok((P4Declaration::Header(header), rest));
+    }
+    if is_next(Sign::Struct, tokens) {
+        let (struct_, rest) = struct_of(alloc, fuel, tokens)?;
+        return Ok((P4Declaration::Struct(struct_), rest));
+    }
+    if is_next(Sign::Typedef, tokens) {
+        let (typedef, rest) = typedef_of(tokens)?;
+        return Ok((P4Declaration::Typedef(typedef), rest));
+    }
+    let (const_, rest) = const_of(alloc, fuel, env, tokens)?;
+    Ok((P4Declaration::Const(const_), rest))
+}
+
+/// Whether a word is in hand that begins a declaration.
+pub fn is_declaration_next(tokens: &[Token]) -> bool
+    ensures { result ≡ hand begins_declaration tokens.now }
+{
+    is_next(Sign::Header, tokens)
+        || is_next(Sign::Struct, tokens)
+        || is_next(Sign::Typedef, tokens)
+        || is_next(Sign::Const, tokens)
+}

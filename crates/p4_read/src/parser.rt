@@ -1,0 +1,246 @@
+//! The parser and its states.
+ghost use Rattle.std.specs.Prelude.{◌≡◌};
+ghost use Rattle.p4_grammar.specs.Forms.{Gives};
+ghost use Rattle.p4_grammar.specs.Reading.{param_at, state_assign_at, extract_rest_at, select_at, target_at, states_at, parser_at};
+ghost use Rattle.p4_read.specs.Statements.{step_behind_at};
+
+use crate::declaration::expressions_of;
+use crate::keyset::{keyset_of, keyset_place};
+use crate::name::names_of;
+use crate::part::{Part, joined, parts_until};
+use crate::path::{dotted_of, is_only, left_of, slice_or_none_of};
+use crate::token::{Reading, is_next, name_of, sign_of};
+use crate::value::{path_of, place_of};
+use p4_ast::{
+    P4Assign, P4Case, P4Expr, P4Extract, P4Name, P4Param, P4Parser, P4State, P4Step, P4Target,
+};
+use p4_lex::{Sign, Token};
+use rp_base::Bytes;
+use sqlite_items::Items;
+use std::alloc::Global;
+
+/// Reads a parameter behind this sign whose type is a name.
+#[tactic(auto, unfolding(p4_grammar::specs::Reading::param_at))]
+pub fn param_of(sign: Sign, tokens: &[Token]) -> Reading<'_, P4Param>
+    ensures { Gives (λ x. (x.0, x.1.now)) (λ e. e.now) result (param_at sign tokens.now) }
+{
+    let (at, rest) = sign_of(sign, tokens)?;
+    let (type_, rest) = name_of(rest)?;
+    let (name, rest) = name_of(rest)?;
+    Ok((P4Param { at, type_, name }, rest))
+}
+
+// An assignment behind its path.
+#[tactic(auto, unfolding(p4_grammar::specs::Reading::state_assign_at))]
+fn state_assign_of<'a>(
+    alloc: Global,
+    fuel: usize,
+    env: &[Bytes],
+    names: Items<P4Name>,
+    tokens: &'a [Token],
+) -> Reading<'a, P4Step>
+    ensures { Gives (λ x. (x.0, x.1.now)) (λ e. e.now) result (state_assign_at fuel env.now names tokens.now) }
+{
+    let (slice, rest) = slice_or_none_of(tokens)?;
+    let (_, rest) = sign_of(Sign::Assign, rest)?;
+    let (expr, rest) = P4Expr::read(alloc, fuel, env, rest)?;
+    let (_, rest) = sign_of(Sign::Semicolon, rest)?;
+    let at = place_of(names.as_slice());
+    let left = left_of(names, slice);
+    Ok((P4Step::Assign(P4Assign { at, left, expr }), rest))
+}
+
+// Behind a name, a dot and `extract`.
+#[tactic(auto, unfolding(p4_grammar::specs::Reading::extract_rest_at))]
+fn extract_rest_of<'a>(
+    alloc: Global,
+    fuel: usize,
+    name: P4Name,
+    tokens: &'a [Token],
+) -> Reading<'a, P4Step>
+    ensures { Gives (λ x. (x.0, x.1.now)) (λ e. e.now) result (extract_rest_at fuel name tokens.now) }
+{
+    let (_, rest) = sign_of(Sign::Open, tokens)?;
+    let (names, rest) = dotted_of(alloc, fuel, rest)?;
+    let (_, rest) = sign_of(Sign::Close, rest)?;
+    let (_, rest) = sign_of(Sign::Semicolon, rest)?;
+    let at = name.at;
+    let path = path_of(names);
+    Ok((P4Step::Extract(P4Extract { at, name, path }), rest))
+}
+
+// Behind a path: `extract` by its name, and else an assignment.
+#[tactic(auto, unfolding(p4_grammar::specs::Reading::or_extract_at))]
+fn step_behind_of<'a>(
+    alloc: Global,
+    fuel: usize,
+    env: &[Bytes],
+    first: P4Name,
+    more: Items<P4Name>,
+    tokens: &'a [Token],
+) -> Reading<'a, P4Step>
+    ensures { Gives (λ x. (x.0, x.1.now)) (λ e. e.now) result (step_behind_at fuel env.now first more tokens.now) }
+{
+    if is_only(b"extract", &first, more.as_slice()) && is_next(Sign::Open, tokens) {
+        return extract_rest_of(alloc, fuel, first, tokens);
+    }
+    let names = joined(alloc, first, more)?;
+    state_assign_of(alloc, fuel, env, names, tokens)
+}
+
+impl Part for P4Step {
+    ghost use Rattle.p4_grammar.specs.Reading.{step_at};
+
+    ghost reader = { step_at };
+
+    #[tactic(auto, unfolding(p4_grammar::specs::Reading::step_at))]
+    fn read<'a>(
+        alloc: Global,
+        fuel: usize,
+        env: &[Bytes],
+        tokens: &'a [Token],
+    ) -> Reading<'a, P4Step> {
+        let (first, rest) = name_of(tokens)?;
+        let (more, rest) = names_of(alloc, fuel, rest)?;
+        step_behind_of(alloc, fuel, env, first, more, rest)
+    }
+}
+
+impl Part for P4Case {
+    ghost use Rattle.p4_grammar.specs.Reading.{case_at};
+
+    ghost reader = { case_at };
+
+    #[tactic(auto, unfolding(p4_grammar::specs::Reading::case_at))]
+    fn read<'a>(
+        alloc: Global,
+        fuel: usize,
+        env: &[Bytes],
+        tokens: &'a [Token],
+    ) -> Reading<'a, P4Case> {
+        let (keyset, rest) = keyset_of(alloc, fuel, env, tokens)?;
+        let (_, rest) = sign_of(Sign::Colon, rest)?;
+        let (name, rest) = name_of(rest)?;
+        let (_, rest) = sign_of(Sign::Semicolon, rest)?;
+        let at = keyset_place(&keyset);
+        Ok((P4Case { at, keyset, name }, rest))
+    }
+}
+
+#[tactic(auto, unfolding(p4_grammar::specs::Reading::select_at))]
+fn select_of<'a>(
+    alloc: Global,
+    fuel: usize,
+    env: &[Bytes],
+    tokens: &'a [Token],
+) -> Reading<'a, P4Target>
+    ensures { Gives (λ x. (x.0, x.1.now)) (λ e. e.now) result (select_at fuel env.now tokens.now) }
+{
+    let (at, rest) = sign_of(Sign::Select, tokens)?;
+    let (_, rest) = sign_of(Sign::Open, rest)?;
+    let (exprs, rest) = expressions_of(alloc, fuel, env, rest)?;
+    let (_, rest) = sign_of(Sign::Close, rest)?;
+    let (_, rest) = sign_of(Sign::OpenBrace, rest)?;
+    let (cases, rest) = parts_until(alloc, Sign::CloseBrace, fuel, env, rest)?;
+    let (_, rest) = sign_of(Sign::CloseBrace, rest)?;
+    Ok((P4Target::Select { at, exprs, cases }, rest))
+}
+
+#[tactic(auto, unfolding(p4_grammar::specs::Reading::target_at))]
+fn target_of<'a>(
+    alloc: Global,
+    fuel: usize,
+    env: &[Bytes],
+    tokens: &'a [Token],
+) -> Reading<'a, P4Target>
+    ensures { Gives (λ x. (x.0, x.1.now)) (λ e. e.now) result (target_at fuel env.now tokens.now) }
+{
+    if is_next(Sign::Select, tokens) {
+        return select_of(alloc, fuel, env, tokens);
+    }
+    let (name, rest) = name_of(tokens)?;
+    let (_, rest) = sign_of(Sign::Semicolon, rest)?;
+    let at = name.at;
+    Ok((P4Target::Name { at, name }, rest))
+}
+
+impl Part for P4State {
+    ghost use Rattle.p4_grammar.specs.Reading.{state_at};
+
+    ghost reader = { state_at };
+
+    #[tactic(auto, unfolding(p4_grammar::specs::Reading::state_at))]
+    fn read<'a>(
+        alloc: Global,
+        fuel: usize,
+        env: &[Bytes],
+        tokens: &'a [Token],
+    ) -> Reading<'a, P4State> {
+        let (at, rest) = sign_of(Sign::State, tokens)?;
+        let (name, rest) = name_of(rest)?;
+        let (_, rest) = sign_of(Sign::OpenBrace, rest)?;
+        let (steps, rest) = parts_until(alloc, Sign::Transition, fuel, env, rest)?;
+        let (_, rest) = sign_of(Sign::Transition, rest)?;
+        let (target, rest) = target_of(alloc, fuel, env, rest)?;
+        let (_, rest) = sign_of(Sign::CloseBrace, rest)?;
+        let state = P4State {
+            at,
+            name,
+            steps,
+            target,
+        };
+        Ok((state, rest))
+    }
+}
+
+#[tactic(auto, unfolding(p4_grammar::specs::Reading::states_at))]
+fn states_of<'a>(
+    alloc: Global,
+    fuel: usize,
+    env: &[Bytes],
+    tokens: &'a [Token],
+) -> Reading<'a, Items<P4State>>
+    ensures { Gives (λ x. (x.0, x.1.now)) (λ e. e.now) result (states_at fuel env.now tokens.now) }
+{
+    let (_, rest) = sign_of(Sign::OpenBrace, tokens)?;
+    let (states, rest) = parts_until(alloc, Sign::CloseBrace, fuel, env, rest)?;
+    let (_, rest) = sign_of(Sign::CloseBrace, rest)?;
+    Ok((states, rest))
+}
+
+/// Reads the parser.
+#[tactic(auto, unfolding(p4_grammar::specs::Reading::parser_at))]
+pub fn parser_of<'a>(
+    alloc: Global,
+    fuel: usize,
+    env: &[Bytes],
+    tokens: &'a [Token],
+) -> Reading<'a, P4Parser>
+    ensures { Gives (λ x. (x.0, x.1.now)) (λ e. e.now) result (parser_at fuel env.now tokens.now) }
+{
+    let (at, rest) = sign_of(Sign::Parser, tokens)?;
+    let (name, rest) = name_of(rest)?;
+    let (_, rest) = sign_of(Sign::Open, rest)?;
+    let (_, rest) = sign_of(Sign::PacketIn, rest)?;
+    let (packet, rest) = name_of(rest)?;
+    let (_, rest) = sign_of(Sign::Comma, rest)?;
+    let (headers, rest) = param_of(Sign::Out, rest)?;
+    let (_, rest) = sign_of(Sign::Comma, rest)?;
+    let (meta, rest) = param_of(Sign::Inout, rest)?;
+    let (_, rest) = sign_of(Sign::Comma, rest)?;
+    let (_, rest) = sign_of(Sign::Inout, rest)?;
+    let (_, rest) = sign_of(Sign::StdT, rest)?;
+    let (std, rest) = name_of(rest)?;
+    let (_, rest) = sign_of(Sign::Close, rest)?;
+    let (states, rest) = states_of(alloc, fuel, env, rest)?;
+    let parser = P4Parser {
+        at,
+        name,
+        packet,
+        headers,
+        meta,
+        std,
+        states,
+    };
+    Ok((parser, rest))
+}

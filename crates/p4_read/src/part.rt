@@ -1,0 +1,121 @@
+//! Lists of parts.
+ghost use Rattle.std.specs.Prelude.{◌≡◌, ◌∷◌, []};
+ghost use Rattle.p4_grammar.specs.Forms.{Gives, many_at};
+ghost use Rattle.p4_grammar.specs.Tokens.{but, in_hand, words_at};
+ghost use Rattle.p4_read.specs.Made.{Makes};
+ghost use Rattle.p4_lex.specs.declared.token.Sign.TheVariants as sign;
+
+use crate::token::{Reading, is_next, is_other_next, sign_of};
+use crate::value::Made;
+use p4_lex::{Sign, Token};
+use rp_base::Bytes;
+use sqlite_items::Items;
+use std::alloc::Global;
+
+/// A part of a program that stands in lists.
+pub trait Part: Drop {
+    ghost use Rattle.std.specs.Prelude.{ℕ, List, Result};
+    ghost use Rattle.p4_lex.specs.declared.token.Token.{Token as TokenValue};
+    ghost use Rattle.p4_grammar.specs.Forms.{Gives};
+
+    /// How one is read, with so much fuel and these typedefs.
+    ghost reader: { ℕ → List (List ℕ) → List TokenValue → Result (Self × List TokenValue) (List TokenValue) };
+
+    /// Reads one.
+    fn read<'a>(alloc: Global, fuel: usize, env: &[Bytes], tokens: &'a [Token]) -> Reading<'a, Self>
+        ensures { Gives (λ x. (x.0, x.1.now)) (λ e. e.now) result (reader fuel env.now tokens.now) };
+}
+
+/// Reads parts up to this sign.
+pub fn parts_until<'a, T: Part>(
+    alloc: Global,
+    end: Sign,
+    fuel: usize,
+    env: &[Bytes],
+    tokens: &'a [Token],
+) -> Reading<'a, Items<T>>
+    ensures { Gives (λ x. (x.0, x.1.now)) (λ e. e.now) result (many_at fuel (but end) (T.reader fuel env.now) tokens.now) }
+{
+    let mut parts = Items::new(alloc);
+    let mut left = fuel;
+    let mut rest = tokens;
+    while left > 0 {
+        left -= 1;
+        if !is_other_next(end, rest) {
+            return Ok((parts, rest));
+        }
+        let (part, after) = T::read(alloc, fuel, env, rest)?;
+        if parts.push(part).is_err() {
+            return Err(None);
+        }
+        rest = after;
+    }
+    Err(Some(rest))
+}
+
+// Reads a part behind a comma.
+fn next_part<'a, T: Part>(
+    alloc: Global,
+    fuel: usize,
+    env: &[Bytes],
+    tokens: &'a [Token],
+) -> Reading<'a, T>
+    ensures { Gives (λ x. (x.0, x.1.now)) (λ e. e.now) result (words_at (sign.Comma ∷ []) (T.reader fuel env.now) tokens.now) }
+{
+    let (_, rest) = sign_of(Sign::Comma, tokens)?;
+    T::read(alloc, fuel, env, rest)
+}
+
+/// Reads parts, each behind a comma.
+pub fn parts_behind<'a, T: Part>(
+    alloc: Global,
+    fuel: usize,
+    env: &[Bytes],
+    tokens: &'a [Token],
+) -> Reading<'a, Items<T>>
+    ensures { Gives (λ x. (x.0, x.1.now)) (λ e. e.now) result (many_at fuel (in_hand sign.Comma) (words_at (sign.Comma ∷ []) (T.reader fuel env.now)) tokens.now) }
+{
+    let mut parts = Items::new(alloc);
+    let mut left = fuel;
+    let mut rest = tokens;
+    while left > 0 {
+        left -= 1;
+        if !is_next(Sign::Comma, rest) {
+            return Ok((parts, rest));
+        }
+        let (part, after) = next_part(alloc, fuel, env, rest)?;
+        if parts.push(part).is_err() {
+            return Err(None);
+        }
+        rest = after;
+    }
+    Err(Some(rest))
+}
+
+/// A list of one and more.
+pub fn joined<'a, T: Drop>(alloc: Global, first: T, more: Items<T>) -> Made<'a, Items<T>>
+    ensures { Makes result (first ∷ more) }
+{
+    let mut parts = Items::new(alloc);
+    if parts.push(first).is_err() {
+        return Err(None);
+    }
+    if parts.append(more).is_err() {
+        return Err(None);
+    }
+    Ok(parts)
+}
+
+/// A list of two.
+pub fn pair<'a, T: Drop>(alloc: Global, first: T, second: T) -> Made<'a, Items<T>>
+    ensures { Makes result (first ∷ second ∷ []) }
+{
+    let mut parts = Items::new(alloc);
+    if parts.push(first).is_err() {
+        return Err(None);
+    }
+    if parts.push(second).is_err() {
+        return Err(None);
+    }
+    Ok(parts)
+}

@@ -1,0 +1,400 @@
+//! Statements.
+ghost use Rattle.std.specs.Prelude.{◌≡◌};
+ghost use Rattle.p4_grammar.specs.Forms.{Gives, bind_at, done_at};
+ghost use Rattle.p4_grammar.specs.ReadingExpressions.{type_at, word_type_at};
+ghost use Rattle.p4_grammar.specs.Trees.{read_piece as read_piece_of, write_piece as write_piece_of};
+ghost use Rattle.p4_grammar.specs.ReadingStatements.{var_at, var_rest_at, var_piece as var_piece_of, read_rest_at, assign_end_at, assign_at, write_rest_at, valid_rest_at, path_led_at, name_led_at, key_at};
+ghost use Rattle.p4_read.specs.Statements.{assigned_expr_at, called_or_assign_at, applied_stmt_at, dot_led_at, call_stmt_at};
+
+use crate::declaration::args_of;
+use crate::expression::{expr_of, front_of};
+use crate::name::{names_of, place_of_type, type_named, type_of, word_type_of};
+use crate::part::{Part, joined};
+use crate::path::{is_only, left_of, slice_or_none_of};
+use crate::token::{Reading, is_name_next, is_next, name_of, sign_of};
+use crate::value::{ends_in, path_of, place_of};
+use p4_ast::{
+    P4Apply, P4Assign, P4Callstmt, P4Expr, P4Keystmt, P4Left, P4Name, P4Read, P4Stmt, P4Type,
+    P4Valid, P4Validity, P4Var, P4Write,
+};
+use p4_grammar::{Mark, Piece, Spelled};
+use p4_lex::{Sign, Token};
+use rp_base::Bytes;
+use sqlite_items::Items;
+use std::alloc::Global;
+
+/// Reads a variable behind its type and its name.
+#[tactic(auto, unfolding(p4_grammar::specs::ReadingStatements::var_rest_at))]
+pub fn var_rest_of<'a>(
+    alloc: Global,
+    fuel: usize,
+    env: &[Bytes],
+    at: u64,
+    type_: P4Type,
+    name: P4Name,
+    tokens: &'a [Token],
+) -> Reading<'a, P4Var>
+    ensures { Gives (λ x. (x.0, x.1.now)) (λ e. e.now) result (var_rest_at fuel env.now at type_ name tokens.now) }
+{
+    if is_next(Sign::Assign, tokens) {
+        let (_, rest) = sign_of(Sign::Assign, tokens)?;
+        let (expr, rest) = P4Expr::read(alloc, fuel, env, rest)?;
+        let (_, rest) = sign_of(Sign::Semicolon, rest)?;
+        let expr = Some(expr);
+        return Ok((
+            P4Var {
+                at,
+                type_,
+                name,
+                expr,
+            },
+            rest,
+        ));
+    }
+    let (_, rest) = sign_of(Sign::Semicolon, tokens)?;
+    let expr = None;
+    Ok((
+        P4Var {
+            at,
+            type_,
+            name,
+            expr,
+        },
+        rest,
+    ))
+}
+
+fn var_piece(var: P4Var) -> Piece
+    ensures { result ≡ var_piece_of var }
+{
+    Piece::Stmt {
+        at: var.at,
+        stmt: P4Stmt::Var(var),
+    }
+}
+
+/// Reads a variable.
+#[tactic(auto, unfolding(p4_grammar::specs::ReadingStatements::var_at))]
+pub fn var_of<'a>(
+    alloc: Global,
+    fuel: usize,
+    env: &[Bytes],
+    tokens: &'a [Token],
+) -> Reading<'a, P4Var>
+    ensures { Gives (λ x. (x.0, x.1.now)) (λ e. e.now) result (var_at fuel env.now type_at tokens.now) }
+{
+    let (type_, rest) = type_of(tokens)?;
+    let (name, rest) = name_of(rest)?;
+    let at = place_of_type(&type_);
+    var_rest_of(alloc, fuel, env, at, type_, name, rest)
+}
+
+/// Reads a variable whose type begins with a word.
+#[tactic(auto, unfolding(p4_grammar::specs::ReadingStatements::var_at))]
+pub fn word_var_of<'a>(
+    alloc: Global,
+    fuel: usize,
+    env: &[Bytes],
+    tokens: &'a [Token],
+) -> Reading<'a, Piece>
+    ensures { Gives (λ x. (x.0, x.1.now)) (λ e. e.now) result (bind_at (var_at fuel env.now word_type_at) (λ v. done_at (var_piece_of v)) tokens.now) }
+{
+    let (type_, rest) = word_type_of(tokens)?;
+    let (name, rest) = name_of(rest)?;
+    let at = place_of_type(&type_);
+    let (var, rest) = var_rest_of(alloc, fuel, env, at, type_, name, rest)?;
+    Ok((var_piece(var), rest))
+}
+
+fn read_piece(left: P4Left, type_: Option<P4Type>, name: P4Name, expr: Option<P4Expr>) -> Piece
+    ensures { result ≡ read_piece_of left type_ name expr }
+{
+    let at = left.at;
+    let stmt = P4Stmt::Read(P4Read {
+        at,
+        left,
+        type_,
+        name,
+        expr,
+    });
+    Piece::Stmt { at, stmt }
+}
+
+// A read behind the name of its cell, a dot and `read`.
+#[tactic(auto, unfolding(p4_grammar::specs::ReadingStatements::read_rest_at))]
+fn read_rest_of<'a>(
+    alloc: Global,
+    fuel: usize,
+    env: &[Bytes],
+    left: P4Left,
+    type_: Option<P4Type>,
+    name: P4Name,
+    tokens: &'a [Token],
+) -> Reading<'a, Piece>
+    ensures { Gives (λ x. (x.0, x.1.now)) (λ e. e.now) result (read_rest_at fuel env.now left type_ name tokens.now) }
+{
+    let (_, rest) = sign_of(Sign::Open, tokens)?;
+    if is_next(Sign::Close, rest) {
+        let (_, rest) = sign_of(Sign::Close, rest)?;
+        let (_, rest) = sign_of(Sign::Semicolon, rest)?;
+        return Ok((read_piece(left, type_, name, None), rest));
+    }
+    let (index, rest) = P4Expr::read(alloc, fuel, env, rest)?;
+    let (_, rest) = sign_of(Sign::Close, rest)?;
+    let (_, rest) = sign_of(Sign::Semicolon, rest)?;
+    Ok((read_piece(left, type_, name, Some(index)), rest))
+}
+
+// The end of an assignment.
+fn assigned_of<'a>(left: P4Left, expr: P4Expr, tokens: &'a [Token]) -> Reading<'a, Piece>
+    ensures { Gives (λ x. (x.0, x.1.now)) (λ e. e.now) result (assigned_expr_at left expr tokens.now) }
+{
+    let (_, rest) = sign_of(Sign::Semicolon, tokens)?;
+    let at = left.at;
+    let stmt = P4Stmt::Assign(P4Assign { at, left, expr });
+    Ok((Piece::Stmt { at, stmt }, rest))
+}
+
+// Behind the expression: only a read of a cell, cast or not, may be read instead.
+#[tactic(auto, unfolding(p4_grammar::specs::ReadingStatements::assign_end_at, p4_grammar::specs::ReadingStatements::assigned_at))]
+fn assign_end_of<'a>(
+    alloc: Global,
+    fuel: usize,
+    env: &[Bytes],
+    left: P4Left,
+    x: Spelled,
+    tokens: &'a [Token],
+) -> Reading<'a, Piece>
+    ensures { Gives (λ x. (x.0, x.1.now)) (λ e. e.now) result (assign_end_at fuel env.now left x x.mark tokens.now) }
+{
+    let Spelled { at: _, expr, mark } = x;
+    match mark {
+        Mark::Read(name) => {
+            if is_next(Sign::Open, tokens) {
+                return read_rest_of(alloc, fuel, env, left, None, name, tokens);
+            }
+            assigned_of(left, expr, tokens)
+        }
+        Mark::CastRead(type_, name) => {
+            if is_next(Sign::Open, tokens) {
+                return read_rest_of(alloc, fuel, env, left, Some(type_), name, tokens);
+            }
+            assigned_of(left, expr, tokens)
+        }
+        Mark::One(_) => assigned_of(left, expr, tokens),
+        Mark::Bare => assigned_of(left, expr, tokens),
+        Mark::Plain => assigned_of(left, expr, tokens),
+    }
+}
+
+// Behind the path of the left side.
+#[tactic(auto, unfolding(p4_grammar::specs::ReadingStatements::assign_at))]
+fn assign_of<'a>(
+    alloc: Global,
+    fuel: usize,
+    env: &[Bytes],
+    names: Items<P4Name>,
+    tokens: &'a [Token],
+) -> Reading<'a, Piece>
+    ensures { Gives (λ x. (x.0, x.1.now)) (λ e. e.now) result (assign_at fuel env.now names tokens.now) }
+{
+    let (slice, rest) = slice_or_none_of(tokens)?;
+    let (_, rest) = sign_of(Sign::Assign, rest)?;
+    let (x, rest) = expr_of(alloc, fuel, env, rest)?;
+    assign_end_of(alloc, fuel, env, left_of(names, slice), x, rest)
+}
+
+fn write_piece(name: P4Name, expr: P4Expr, second: Option<P4Expr>) -> Piece
+    ensures { result ≡ write_piece_of name expr second }
+{
+    let at = name.at;
+    let stmt = P4Stmt::Write(P4Write {
+        at,
+        name,
+        expr,
+        second,
+    });
+    Piece::Stmt { at, stmt }
+}
+
+// A write behind the name of its cell, a dot and `write`.
+#[tactic(auto, unfolding(p4_grammar::specs::ReadingStatements::write_rest_at))]
+fn write_rest_of<'a>(
+    alloc: Global,
+    fuel: usize,
+    env: &[Bytes],
+    name: P4Name,
+    tokens: &'a [Token],
+) -> Reading<'a, Piece>
+    ensures { Gives (λ x. (x.0, x.1.now)) (λ e. e.now) result (write_rest_at fuel env.now name tokens.now) }
+{
+    let (_, rest) = sign_of(Sign::Open, tokens)?;
+    let (expr, rest) = P4Expr::read(alloc, fuel, env, rest)?;
+    if is_next(Sign::Comma, rest) {
+        let (_, rest) = sign_of(Sign::Comma, rest)?;
+        let (second, rest) = P4Expr::read(alloc, fuel, env, rest)?;
+        let (_, rest) = sign_of(Sign::Close, rest)?;
+        let (_, rest) = sign_of(Sign::Semicolon, rest)?;
+        return Ok((write_piece(name, expr, Some(second)), rest));
+    }
+    let (_, rest) = sign_of(Sign::Close, rest)?;
+    let (_, rest) = sign_of(Sign::Semicolon, rest)?;
+    Ok((write_piece(name, expr, None), rest))
+}
+
+#[tactic(auto, unfolding(p4_grammar::specs::ReadingStatements::valid_rest_at))]
+fn valid_rest_of<'a>(
+    names: Items<P4Name>,
+    validity: P4Validity,
+    tokens: &'a [Token],
+) -> Reading<'a, Piece>
+    ensures { Gives (λ x. (x.0, x.1.now)) (λ e. e.now) result (valid_rest_at names validity tokens.now) }
+{
+    let (_, rest) = sign_of(Sign::Open, tokens)?;
+    let (_, rest) = sign_of(Sign::Close, rest)?;
+    let (_, rest) = sign_of(Sign::Semicolon, rest)?;
+    let at = place_of(names.as_slice());
+    let path = path_of(names);
+    let stmt = P4Stmt::Valid(P4Valid { at, path, validity });
+    Ok((Piece::Stmt { at, stmt }, rest))
+}
+
+// Behind a path that isn't a cell's and `write`.
+#[tactic(auto, unfolding(p4_grammar::specs::ReadingStatements::or_valid_at))]
+fn called_or_assign_of<'a>(
+    alloc: Global,
+    fuel: usize,
+    env: &[Bytes],
+    names: Items<P4Name>,
+    tokens: &'a [Token],
+) -> Reading<'a, Piece>
+    ensures { Gives (λ x. (x.0, x.1.now)) (λ e. e.now) result (called_or_assign_at fuel env.now names tokens.now) }
+{
+    if is_next(Sign::Open, tokens) {
+        if ends_in(b"setValid", names.as_slice()) {
+            return valid_rest_of(front_of(names), P4Validity::SetValid, tokens);
+        }
+        if ends_in(b"setInvalid", names.as_slice()) {
+            return valid_rest_of(front_of(names), P4Validity::SetInvalid, tokens);
+        }
+    }
+    assign_of(alloc, fuel, env, names, tokens)
+}
+
+// Behind a path.
+#[tactic(auto, unfolding(p4_grammar::specs::ReadingStatements::path_led_at, p4_grammar::specs::ReadingStatements::or_write_at))]
+fn path_led_of<'a>(
+    alloc: Global,
+    fuel: usize,
+    env: &[Bytes],
+    first: P4Name,
+    more: Items<P4Name>,
+    tokens: &'a [Token],
+) -> Reading<'a, Piece>
+    ensures { Gives (λ x. (x.0, x.1.now)) (λ e. e.now) result (path_led_at fuel env.now first more tokens.now) }
+{
+    if is_only(b"write", &first, more.as_slice()) && is_next(Sign::Open, tokens) {
+        return write_rest_of(alloc, fuel, env, first, tokens);
+    }
+    let names = joined(alloc, first, more)?;
+    called_or_assign_of(alloc, fuel, env, names, tokens)
+}
+
+// Behind the name of a table and a dot.
+fn applied_of<'a>(first: P4Name, tokens: &'a [Token]) -> Reading<'a, Piece>
+    ensures { Gives (λ x. (x.0, x.1.now)) (λ e. e.now) result (applied_stmt_at first tokens.now) }
+{
+    let (_, rest) = sign_of(Sign::Apply, tokens)?;
+    let (_, rest) = sign_of(Sign::Open, rest)?;
+    let (_, rest) = sign_of(Sign::Close, rest)?;
+    let (_, rest) = sign_of(Sign::Semicolon, rest)?;
+    let at = first.at;
+    let stmt = P4Stmt::Apply(P4Apply { at, name: first });
+    Ok((Piece::Stmt { at, stmt }, rest))
+}
+
+// Behind a name, where a dot follows.
+fn dot_led_of<'a>(
+    alloc: Global,
+    fuel: usize,
+    env: &[Bytes],
+    first: P4Name,
+    tokens: &'a [Token],
+) -> Reading<'a, Piece>
+    ensures { Gives (λ x. (x.0, x.1.now)) (λ e. e.now) result (dot_led_at fuel env.now first tokens.now) }
+{
+    let (_, rest) = sign_of(Sign::Dot, tokens)?;
+    if is_next(Sign::Apply, rest) {
+        return applied_of(first, rest);
+    }
+    let (second, rest) = name_of(rest)?;
+    let (more, rest) = names_of(alloc, fuel, rest)?;
+    let more = joined(alloc, second, more)?;
+    path_led_of(alloc, fuel, env, first, more, rest)
+}
+
+// Behind the name of an action.
+fn call_of<'a>(
+    alloc: Global,
+    fuel: usize,
+    env: &[Bytes],
+    first: P4Name,
+    tokens: &'a [Token],
+) -> Reading<'a, Piece>
+    ensures { Gives (λ x. (x.0, x.1.now)) (λ e. e.now) result (call_stmt_at fuel env.now first tokens.now) }
+{
+    let (args, rest) = args_of(alloc, fuel, env, tokens)?;
+    let (_, rest) = sign_of(Sign::Semicolon, rest)?;
+    let at = first.at;
+    let stmt = P4Stmt::Callstmt(P4Callstmt {
+        at,
+        name: first,
+        args,
+    });
+    Ok((Piece::Stmt { at, stmt }, rest))
+}
+
+/// Reads a statement behind its first name.
+#[tactic(auto, unfolding(p4_grammar::specs::ReadingStatements::name_led_at))]
+pub fn name_led_of<'a>(
+    alloc: Global,
+    fuel: usize,
+    env: &[Bytes],
+    first: P4Name,
+    tokens: &'a [Token],
+) -> Reading<'a, Piece>
+    ensures { Gives (λ x. (x.0, x.1.now)) (λ e. e.now) result (name_led_at fuel env.now first tokens.now) }
+{
+    if is_name_next(tokens) {
+        let (name, rest) = name_of(tokens)?;
+        let at = first.at;
+        let (var, rest) = var_rest_of(alloc, fuel, env, at, type_named(first), name, rest)?;
+        return Ok((var_piece(var), rest));
+    }
+    if is_next(Sign::Open, tokens) {
+        return call_of(alloc, fuel, env, first, tokens);
+    }
+    if is_next(Sign::Dot, tokens) {
+        return dot_led_of(alloc, fuel, env, first, tokens);
+    }
+    path_led_of(alloc, fuel, env, first, Items::new(alloc), tokens)
+}
+
+/// Reads a `flow_key`.
+#[tactic(auto, unfolding(p4_grammar::specs::ReadingStatements::key_at))]
+pub fn key_of<'a>(
+    alloc: Global,
+    fuel: usize,
+    env: &[Bytes],
+    tokens: &'a [Token],
+) -> Reading<'a, Piece>
+    ensures { Gives (λ x. (x.0, x.1.now)) (λ e. e.now) result (key_at fuel env.now tokens.now) }
+{
+    let (at, rest) = sign_of(Sign::FlowKey, tokens)?;
+    let (_, rest) = sign_of(Sign::Open, rest)?;
+    let (expr, rest) = P4Expr::read(alloc, fuel, env, rest)?;
+    let (_, rest) = sign_of(Sign::Close, rest)?;
+    let (_, rest) = sign_of(Sign::Semicolon, rest)?;
+    let stmt = P4Stmt::Keystmt(P4Keystmt { at, expr });
+    Ok((Piece::Stmt { at, stmt }, rest))
+}
