@@ -1,5 +1,5 @@
 -- Which messages have a spelling. Bytes, cells and values are within their fields by their types.
-use Rattle.std.specs.Prelude.{ℕ, ◌^◌, Bool, true, false, ◌&&◌, List, [], ◌∷◌, Option, Some, None, nat_le, nat_lt, length}
+use Rattle.std.specs.Prelude.{ℕ, ◌^◌, Bool, true, false, ◌&&◌, List, Option, Some, None, nat_le, nat_lt, length}
 use Rattle.std.specs.List.{list_all}
 use Rattle.proto_data.specs.declared.message.Msg.{Msg}
 use Rattle.proto_data.specs.declared.message.Body.{Body}
@@ -8,7 +8,7 @@ use Rattle.proto_data.specs.declared.message.Entry.{Entry}
 use Rattle.proto_data.specs.declared.message.Echoed.{Echoed}
 use Rattle.proto_data.specs.declared.message.Carried.{Carried}
 use Rattle.proto_data.specs.declared.message.Config.{Config}
-use Rattle.rp_app.specs.Application.{Delta}
+use Rattle.rp_app.specs.Application.{Delta, rising, cells_named}
 
 -- a number of four bytes
 abbrev pub is_u32 : ℕ → Bool
@@ -18,16 +18,6 @@ is_u32 n = nat_lt n (2 ^ 32)
 abbrev pub are_u32 : ℕ → ℕ → ℕ → Bool
 are_u32 a b c = is_u32 a && (is_u32 b && is_u32 c)
 
--- each number is below the next one
-abbrev pub rises : List ℕ → Bool
-rises [] = true
-rises (x ∷ []) = true
-rises (x ∷ y ∷ ys) = nat_lt x y && rises (y ∷ ys)
-
-abbrev pub firsts : Delta → List ℕ
-firsts [] = []
-firsts (d ∷ ds) = d.0 ∷ firsts ds
-
 abbrev pub key_fits : List ℕ → Bool
 key_fits key = nat_le 1 (length key) && nat_le (length key) 16
 
@@ -35,7 +25,7 @@ abbrev pub cells_fit : List ℕ → Bool
 cells_fit cells = nat_le (length cells) 256
 
 abbrev pub delta_fits : Delta → Bool
-delta_fits delta = nat_le (length delta) 256 && (rises (firsts delta) && list_all (λ c. nat_lt c 256) (firsts delta))
+delta_fits delta = nat_le (length delta) 256 && (rising (cells_named delta) && list_all (λ c. nat_lt c 256) (cells_named delta))
 
 abbrev pub load_fits : Option Carried → Bool
 load_fits None = true
@@ -61,7 +51,7 @@ abbrev pub config_fits : Config → Bool
 config_fits c =
     is_u32 c.number
     && (nat_le 1 (length c.chain)
-    && (nat_le (length c.chain) 5 && (rises c.chain && list_all (λ n. nat_lt n 5) c.chain)))
+    && (nat_le (length c.chain) 5 && (rising c.chain && list_all (λ n. nat_lt n 5) c.chain)))
 
 -- what a switch asks of the store
 abbrev pub is_request : Body → Bool

@@ -1,7 +1,8 @@
 //! Which messages have a spelling as a frame.
 ghost use Rattle.std.specs.Prelude.{ℕ, ◌≡◌, ◌<◌, ◌&&◌, true, nat_lt, nat_le, length};
 ghost use Rattle.std.specs.List.{list_all};
-ghost use Rattle.proto_data.specs.MessageFits.{are_u32, body_fits, cells_fit, config_fits, delta_fits, echoed_fits, entry_spelled, firsts, from_master, is_answer, is_request, is_store, is_switch, is_u32, key_fits, load_fits, mark_fits, message_fits, nodes_fit, rises, switch_fits};
+ghost use Rattle.rp_app.specs.Application.{cells_named, rising};
+ghost use Rattle.proto_data.specs.MessageFits.{are_u32, body_fits, cells_fit, config_fits, delta_fits, echoed_fits, entry_spelled, from_master, is_answer, is_request, is_store, is_switch, is_u32, key_fits, load_fits, mark_fits, message_fits, nodes_fit, switch_fits};
 
 use crate::message::{Body, Carried, Config, Echoed, Entry, Msg};
 use rp_app::Delta;
@@ -39,7 +40,7 @@ fn cells_fit(cells: &Cells) -> bool
 }
 
 fn cells_rise(pairs: &[(u16, u64)]) -> bool
-    ensures { result ≡ rises (firsts pairs.now) }
+    ensures { result ≡ rising (cells_named pairs.now) }
 {
     match pairs {
         [first, rest @ ..] => match rest {
@@ -51,7 +52,7 @@ fn cells_rise(pairs: &[(u16, u64)]) -> bool
 }
 
 fn cells_are_within(pairs: &[(u16, u64)]) -> bool
-    ensures { result ≡ list_all (λ c. nat_lt c 256) (firsts pairs.now) }
+    ensures { result ≡ list_all (λ c. nat_lt c 256) (cells_named pairs.now) }
 {
     match pairs {
         [first, rest @ ..] => first.0 < 256 && cells_are_within(rest),
@@ -138,12 +139,12 @@ fn echoed_fits(of: &Echoed) -> bool
     }
 }
 
-fn rises(members: &[u8]) -> bool
-    ensures { result ≡ rises members.now }
+fn rising(members: &[u8]) -> bool
+    ensures { result ≡ rising members.now }
 {
     match members {
         [first, rest @ ..] => match rest {
-            [second, ..] => first < second && rises(rest),
+            [second, ..] => first < second && rising(rest),
             [] => true,
         },
         [] => true,
@@ -166,7 +167,7 @@ fn config_fits(config: &Config) -> bool
     is_u32(config.number)
         && 1 <= members.len()
         && members.len() <= 5
-        && rises(members)
+        && rising(members)
         && are_replicas(members)
 }
 

@@ -1,5 +1,5 @@
 -- A message whose parts are sized fits: it has a spelling.
-use Rattle.std.proofs.Common.{◌≡◌, ℕ, ◌≤◌, ◌<◌, List, [], ◌∷◌, length, Option, Some, None, arith, refl, true, nat_lt, ◌&&◌, ap, ◌∙◌}
+use Rattle.std.proofs.Common.{◌≡◌, ℕ, ◌≤◌, ◌<◌, List, [], ◌∷◌, length, Option, Some, None, arith, refl, true, nat_lt}
 use Rattle.std.specs.List.{list_all, All}
 use Rattle.std.proofs.lemmas.Bool.{and_from, lt-ltb, le-leb}
 use Rattle.std.proofs.lemmas.List.Elements.{All-head, All-tail}
@@ -9,7 +9,7 @@ use Rattle.proto_data.specs.declared.message.Entry.{Entry}
 use Rattle.proto_data.specs.declared.message.Echoed.{Echoed}
 use Rattle.proto_data.specs.declared.message.Carried.{Carried}
 use Rattle.proto_data.specs.declared.message.Config.{Config}
-use Rattle.proto_data.specs.MessageFits.{is_u32, are_u32, key_fits, load_fits, mark_fits, delta_fits, entry_spelled, echoed_fits, config_fits, body_fits, message_fits, rises, firsts}
+use Rattle.proto_data.specs.MessageFits.{is_u32, are_u32, key_fits, load_fits, mark_fits, delta_fits, entry_spelled, echoed_fits, config_fits, body_fits, message_fits}
 use Rattle.rp_app.specs.Application.{Delta, rising, cells_named}
 use Rattle.proto_model.specs.Feeds.{Each}
 use Rattle.proto_model.specs.Table.{Key}
@@ -19,32 +19,22 @@ use Rattle.proto_safety.specs.Sizes.{KeySized, LoadSized, MarkSized, DeltaSized,
 key_is : (key : Key) → KeySized key → key_fits key ≡ true
 key_is key h = and_from _ _ (le-leb 1 (length key) h.0) (le-leb (length key) 16 h.1)
 
-firsts_are : (delta : Delta) → firsts delta ≡ cells_named delta
-firsts_are [] = refl
-firsts_are (d ∷ ds) = ap (λ l. d.0 ∷ l) (firsts_are ds)
-
-rises_as : (xs : List ℕ) → rises xs ≡ rising xs
-rises_as [] = refl
-rises_as (x ∷ []) = refl
-rises_as (x ∷ y ∷ ys) = ap (λ b. nat_lt x y && b) (rises_as (y ∷ ys))
-
 all_below : (xs : List ℕ) → All (λ c. c < 256) xs → list_all (λ c. nat_lt c 256) xs ≡ true
 all_below [] h = refl
 all_below (x ∷ xs) h = and_from _ _ (lt-ltb x 256 (All-head (λ c. c < 256) x xs h)) (all_below xs (All-tail (λ c. c < 256) x xs h))
 
 delta_is : (d : ℕ) (delta : Delta) → DeltaSized d delta → delta_fits delta ≡ true
 delta_is d delta h =
-    and_from _ _ (le-leb (length delta) 256 h.0.short)
-    (and_from _ _ (ap rises (firsts_are delta) ∙ rises_as (cells_named delta) ∙ h.0.rises) (ap (λ l. list_all (λ c. nat_lt c 256) l) (firsts_are delta) ∙ all_below (cells_named delta) h.0.within))
+    and_from _ _ (le-leb (length delta) 256 h.0.short) (and_from _ _ h.0.rises (all_below (cells_named delta) h.0.within))
 
 each_below : (xs : List ℕ) → Each (λ r. r < 5) xs → list_all (λ n. nat_lt n 5) xs ≡ true
 each_below [] h = refl
 each_below (x ∷ xs) h = and_from _ _ (lt-ltb x 5 h.0) (each_below xs h.1)
 
-rising_rises : (xs : List ℕ) → Rising xs → rises xs ≡ true
-rising_rises [] h = refl
-rising_rises (x ∷ []) h = refl
-rising_rises (x ∷ y ∷ ys) h = and_from _ _ (lt-ltb x y h.0.0) (rising_rises (y ∷ ys) h.1)
+chain_is : (xs : List ℕ) → Rising xs → rising xs ≡ true
+chain_is [] h = refl
+chain_is (x ∷ []) h = refl
+chain_is (x ∷ y ∷ ys) h = and_from _ _ (lt-ltb x y h.0.0) (chain_is (y ∷ ys) h.1)
 
 module _ (n : ℕ) (small : n ≤ 4000000001) where
   one_is : (a : ℕ) → a ≤ n → is_u32 a ≡ true
@@ -77,7 +67,7 @@ module _ (n : ℕ) (small : n ≤ 4000000001) where
   config_is c h =
       and_from _ _ (one_is c.number h.number)
       (and_from _ _ (le-leb 1 (length c.chain) h.some)
-      (and_from _ _ (le-leb (length c.chain) 5 h.few) (and_from _ _ (rising_rises c.chain h.rises) (each_below c.chain h.replicas))))
+      (and_from _ _ (le-leb (length c.chain) 5 h.few) (and_from _ _ (chain_is c.chain h.rises) (each_below c.chain h.replicas))))
 
   body_is : (d : ℕ) (body : Body) → BodySized n d body → body_fits body ≡ true
   body_is d (Body.Ask inc nonce key load) h = and_from _ _ (two_are inc nonce h.0 h.1) (and_from _ _ (key_is key h.2) (load_is load h.3))

@@ -6,7 +6,8 @@ use Rattle.proto_data.specs.declared.message.Carried.{Carried}
 use Rattle.proto_data.specs.declared.message.Entry.{Entry}
 use Rattle.proto_data.specs.declared.message.Echoed.{Echoed}
 use Rattle.proto_data.specs.declared.message.Body.{Body}
-use Rattle.proto_data.specs.MessageFits.{is_u32, mark_fits, rises}
+use Rattle.rp_app.specs.Application.{rising}
+use Rattle.proto_data.specs.MessageFits.{is_u32, mark_fits}
 use Rattle.rp_frame.specs.Spelling.{number_bytes, key_bytes, cells_bytes, delta_bytes, load_bytes, mark_bytes, entry_bytes, echoed_bytes, kind}
 use Rattle.rp_frame.specs.Reading.{Reader, ◌>>=◌, byte, load, mark, members, grant_entry, put_entry, snap_entry, entry, ask_echo, put_echo, echoed, chain, ask, grant, busy, put, ack, deny, forward, have, echo, config, snap, body}
 use Rattle.rp_frame.proofs.Codecs.{IsBytes, Codec, chained, recoded, restated}
@@ -147,39 +148,39 @@ abbrev chain_fit : ℕ → List ℕ → Bool
 chain_fit = fit_from (λ low. byte low 4) chain_step (λ n. n ∷ []) (λ low b. InByte low 4 b)
 
 abbrev pub chain_test : List ℕ → Bool
-chain_test c = leb 1 (length c) && (leb (length c) 5 && (rises c && list_all (λ n. ltb n 5) c))
+chain_test c = leb 1 (length c) && (leb (length c) 5 && (rising c && list_all (λ n. ltb n 5) c))
 
 -- what two tests say of a chain
-record Rising (c : List ℕ) : Type 0 where
-  rise : rises c ≡ true
+record Tested (c : List ℕ) : Type 0 where
+  rise : rising c ≡ true
   below : list_all (λ n. ltb n 5) c ≡ true
 
-rising_from : (low : ℕ) (c : List ℕ) → chain_fit low c ≡ true → Rising c
-rising_from low [] f = record { rise = refl; below = refl }
-rising_from low (x ∷ []) f =
+tested_from : (low : ℕ) (c : List ℕ) → chain_fit low c ≡ true → Tested c
+tested_from low [] f = record { rise = refl; below = refl }
+tested_from low (x ∷ []) f =
     let b = byte_bounds low 4 x (and_parts (InByte low 4 x) true f).0 in
     record { rise = refl; below = and_from (ltb x 5) true (lt-ltb x 5 (omega (arith, b.1))) refl }
-rising_from low (x ∷ y ∷ ys) f =
+tested_from low (x ∷ y ∷ ys) f =
     let a = and_parts (InByte low 4 x) (chain_fit (x + 1) (y ∷ ys)) f in
     let b = byte_bounds low 4 x a.0 in
     let n = byte_bounds (x + 1) 4 y (and_parts (InByte (x + 1) 4 y) (chain_fit (y + 1) ys) a.1).0 in
-    let t = rising_from (x + 1) (y ∷ ys) a.1 in
+    let t = tested_from (x + 1) (y ∷ ys) a.1 in
     record { rise = and_from _ _ (lt-ltb x y (omega (arith, n.0))) t.rise; below = and_from _ _ (lt-ltb x 5 (omega (arith, b.1))) t.below }
 
-fit_rising : (low x : ℕ) (xs : List ℕ) → low ≤ x → Rising (x ∷ xs) → chain_fit low (x ∷ xs) ≡ true
-fit_rising low x [] l t =
+fit_tested : (low x : ℕ) (xs : List ℕ) → low ≤ x → Tested (x ∷ xs) → chain_fit low (x ∷ xs) ≡ true
+fit_tested low x [] l t =
     let b : x < 5 = ltb-true x 5 (and_parts (ltb x 5) true t.below).0 in
     and_from (InByte low 4 x) true (in_byte low 4 x l (omega arith) (omega arith)) refl
-fit_rising low x (y ∷ ys) l t =
-    let r = and_parts (ltb x y) (rises (y ∷ ys)) t.rise in
+fit_tested low x (y ∷ ys) l t =
+    let r = and_parts (ltb x y) (rising (y ∷ ys)) t.rise in
     let w = and_parts (ltb x 5) (list_all (λ n. ltb n 5) (y ∷ ys)) t.below in
     let b : x < 5 = ltb-true x 5 w.0 in
     let up : x < y = ltb-true x y r.0 in
-    and_from (InByte low 4 x) (chain_fit (x + 1) (y ∷ ys)) (in_byte low 4 x l (omega arith) (omega arith)) (fit_rising (x + 1) y ys (omega arith) (record { rise = r.1; below = w.1 }))
+    and_from (InByte low 4 x) (chain_fit (x + 1) (y ∷ ys)) (in_byte low 4 x l (omega arith) (omega arith)) (fit_tested (x + 1) y ys (omega arith) (record { rise = r.1; below = w.1 }))
 
-fit_chain : (c : List ℕ) → Rising c → chain_fit 0 c ≡ true
+fit_chain : (c : List ℕ) → Tested c → chain_fit 0 c ≡ true
 fit_chain [] t = refl
-fit_chain (x ∷ xs) t = fit_rising 0 x xs (omega arith) t
+fit_chain (x ∷ xs) t = fit_tested 0 x xs (omega arith) t
 
 flat_bytes : (c : List ℕ) → flat_map (λ (n : ℕ). n ∷ []) c ≡ c
 flat_bytes [] = refl
@@ -197,7 +198,7 @@ chain_is =
     let size : length p.1 ≡ p.0 = eqb-true (length p.1) p.0 b.0 in
     let low : 1 ≤ length p.1 = omega (arith, bounds.0) in
     let high : length p.1 ≤ 5 = omega (arith, bounds.1) in
-    let t = rising_from 0 p.1 b.1 in (
+    let t = tested_from 0 p.1 b.1 in (
       refl,
       ap (λ (n : ℕ). n ∷ p.1) size ∙ ap (λ (l : List ℕ). p.0 ∷ l) (sym (flat_bytes p.1)),
       and_from _ _ (le-leb 1 (length p.1) low) (and_from _ _ (le-leb (length p.1) 5 high) (and_from _ _ t.rise t.below)),

@@ -3,8 +3,8 @@ use Rattle.std.proofs.Common.{◌≡◌, ℕ, zero, suc, ◌+◌, ◌^◌, ◌�
 use Rattle.std.specs.Int.{w16, w32, w64, byte_len, from_be_bytes}
 use Rattle.std.specs.List.{flat_map, list_all}
 use Rattle.std.proofs.lemmas.Bool.{false≢true, ltb-true, lt-ltb, leb-true, le-leb, eqb-true, eq-eqb, and_parts, and_from}
-use Rattle.proto_data.specs.MessageFits.{is_u32, key_fits, delta_fits, rises, firsts}
-use Rattle.rp_app.specs.Application.{Delta}
+use Rattle.proto_data.specs.MessageFits.{is_u32, key_fits, delta_fits}
+use Rattle.rp_app.specs.Application.{Delta, rising, cells_named}
 use Rattle.rp_frame.specs.Ranges.{all_bytes, all_values, delta_in}
 use Rattle.rp_frame.specs.Spelling.{number_bytes, short_bytes, value_bytes, key_bytes, cells_bytes, member_bytes, delta_bytes}
 use Rattle.rp_frame.specs.Reading.{Reader, ◌>>=◌, done, whole, number, value, short, byte, members, key, cells, member, delta}
@@ -175,7 +175,7 @@ abbrev next_cell : ℕ × ℕ → ℕ
 next_cell d = d.0 + 1
 
 abbrev delta_tests : Delta → Bool
-delta_tests ds = (rises (firsts ds) && list_all (λ c. ltb c 256) (firsts ds)) && delta_in ds
+delta_tests ds = (rising (cells_named ds) && list_all (λ c. ltb c 256) (cells_named ds)) && delta_in ds
 
 member_parts : (low : ℕ) (d : ℕ × ℕ) → IsMember low d ≡ true → (low ≤ d.0) × (d.0 < 256) × (ltb d.1 (2 ^ 64) ≡ true)
 member_parts low d f =
@@ -189,8 +189,8 @@ is_member low d l h v = and_from _ _ (and_from _ _ (lt-ltb d.0 (2 ^ 16) (omega a
 
 -- what three tests say of a delta
 record Tested (ds : Delta) : Type 0 where
-  rise : rises (firsts ds) ≡ true
-  below : list_all (λ c. ltb c 256) (firsts ds) ≡ true
+  rise : rising (cells_named ds) ≡ true
+  below : list_all (λ c. ltb c 256) (cells_named ds) ≡ true
   values : delta_in ds ≡ true
 
 tested_from : (low : ℕ) (ds : Delta) → fit_from member next_cell member_bytes IsMember low ds ≡ true → Tested ds
