@@ -70,7 +70,7 @@ given_up slots key slot (c ∷ cs) h = given_one slots key slot c cs h.0 (given_
     given_one : (slots : Table Slot) (key : Key) (slot : Slot) (c : Copy) (cs : List Copy) → HasSlot slots c → CopiesFit (put slots key slot) (filter (λ c. not (is_of key c)) cs) → (b : Bool) → same_key c.key key ≡ b →
         CopiesFit (put slots key slot) (if not b then c ∷ filter (λ c. not (is_of key c)) cs else filter (λ c. not (is_of key c)) cs)
     given_one slots key slot c cs k rest true is = rest
-    given_one slots key slot c cs k rest false ne = (other_slot slots key slot c (same_key-sym c.key key ne) k, rest)
+    given_one slots key slot c cs k rest false ne = (other_slot slots key slot c (same_key-sym key c.key ∙ ne) k, rest)
 
 -- fewer copies
 fewer : (slots : Table Slot) (p : Copy → Bool) (copies : List Copy) → CopiesFit slots copies → CopiesFit slots (filter p copies)

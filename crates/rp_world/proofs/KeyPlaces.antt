@@ -1,12 +1,10 @@
 -- A table by the place of a key.
-use Rattle.std.proofs.Common.{◌≡◌, ℕ, ◌∷◌, [], Option, Some, None, refl, sym, ap, ◌∙◌, true, false, Bool, position, slice_get, is_some}
-use Rattle.std.specs.Prelude.{if◌then◌else◌}
+use Rattle.std.proofs.Common.{◌≡◌, ℕ, Option, Some, None, refl, sym, ◌∙◌, false, position, slice_get, is_some}
 use Rattle.std.proofs.lemmas.Bool.{false≢true}
 use Rattle.std.specs.Map.{keys_of, values_of, lookup}
 use Rattle.indexmap.specs.IndexMap.{set_value_at}
 use Rattle.indexmap.proofs.MapLemmas.{insert_entry-first, Found-position}
-use Rattle.proto_model.specs.Table.{Key, Table, same_key, get, put}
-use Rattle.rp_world.proofs.KeyTables.{same_key-true}
+use Rattle.proto_model.specs.Table.{Key, Table, get, put}
 use Rattle.rp_world.proofs.KeyMaps.{key_eq, lookup_get, insert_put}
 
 -- writing at the place of a key
@@ -33,13 +31,3 @@ no_place t s k same found = rw (sym same) (sym (lookup_get t k) ∙ by (lookup (
     by : {V : Type 0} (o : Option V) → false ≡ is_some o → o ≡ None
     by None e = refl
     by (Some v) e = absurd (false≢true e)
-
--- what is put at one key changes no other
-pub get-put_other : {V : Type 0} (t : Table V) (j k : Key) (v : V) → same_key k j ≡ false → get (put t k v) j ≡ get t j
-get-put_other [] j k v ne = rw ne
-get-put_other (e ∷ es) j k v ne = by e es j k v ne (same_key e.0 k) refl (get-put_other es j k v ne)
-  where
-    by : {V : Type 0} (e : Key × V) (es : Table V) (j k : Key) (v : V) → same_key k j ≡ false → (b : Bool) → same_key e.0 k ≡ b → get (put es k v) j ≡ get es j →
-        get (if b then (k, v) ∷ es else e ∷ put es k v) j ≡ get (e ∷ es) j
-    by e es j k v ne true is h = let same : e.0 ≡ k = same_key-true e.0 k is in rw (same, ne)
-    by e es j k v ne false is h = ap (λ o. if same_key e.0 j then Some e.1 else o) h

@@ -7,9 +7,8 @@ use Rattle.proto_model.specs.Records.{Booked}
 use Rattle.proto_model.specs.SwitchState.{Item}
 use Rattle.proto_model.specs.World.{Journaled}
 use Rattle.proto_model.specs.ReplicaRows.{entry_key}
+use Rattle.proto_safety.proofs.Tables.{same_key-true, get-put_same, get-put_other}
 use Rattle.rp_world.specs.Endings.{Numbered, Marked, FlowNotes, numbered, marked, notes_or_none, with_entry, with_item, noted}
-use Rattle.rp_world.proofs.KeyTables.{same_key-true, get_put}
-use Rattle.rp_world.proofs.KeyPlaces.{get-put_other}
 
 -- the entries and the items of one flow
 abbrev pub numbers_of : Key → List Booked → List Numbered
@@ -33,14 +32,14 @@ behind_none f = λ i. record { entries = append-nil f.entries i; items = append-
 entry_noted : (t : Table FlowNotes) (e : Entry) (k : Key) (b : Bool) → same_key (entry_key e) k ≡ b → notes_of (with_entry t e) k ≡ behind (notes_of t k) (if b then numbered e ∷ [] else []) []
 entry_noted t e k true is =
     let same : entry_key e ≡ k = same_key-true (entry_key e) k is in
-    rw (sym same, get_put t (entry_key e) (record { entries = (notes_of t (entry_key e)).entries ++ numbered e ∷ []; items = (notes_of t (entry_key e)).items }), append-nil (notes_of t (entry_key e)).items) refl
+    rw (sym same, get-put_same t (entry_key e) (record { entries = (notes_of t (entry_key e)).entries ++ numbered e ∷ []; items = (notes_of t (entry_key e)).items }), append-nil (notes_of t (entry_key e)).items) refl
 entry_noted t e k false is =
     rw (get-put_other t k (entry_key e) (record { entries = (notes_of t (entry_key e)).entries ++ numbered e ∷ []; items = (notes_of t (entry_key e)).items }) is) (sym (behind_none (notes_of t k)))
 
 item_noted : (t : Table FlowNotes) (i : Item) (k : Key) (b : Bool) → same_key i.key k ≡ b → notes_of (with_item t i) k ≡ behind (notes_of t k) [] (if b then marked i ∷ [] else [])
 item_noted t i k true is =
     let same : i.key ≡ k = same_key-true i.key k is in
-    rw (sym same, get_put t i.key (record { entries = (notes_of t i.key).entries; items = (notes_of t i.key).items ++ marked i ∷ [] }), append-nil (notes_of t i.key).entries) refl
+    rw (sym same, get-put_same t i.key (record { entries = (notes_of t i.key).entries; items = (notes_of t i.key).items ++ marked i ∷ [] }), append-nil (notes_of t i.key).entries) refl
 item_noted t i k false is =
     rw (get-put_other t k i.key (record { entries = (notes_of t i.key).entries; items = (notes_of t i.key).items ++ marked i ∷ [] }) is) (sym (behind_none (notes_of t k)))
 

@@ -7,12 +7,8 @@ use Rattle.proto_data.specs.declared.message.Entry.{Entry}
 use Rattle.proto_model.specs.Table.{Key, same_key, get, put}
 use Rattle.proto_model.specs.ReplicaState.{Replica}
 use Rattle.proto_model.specs.Records.{Records, cells_of, put_applied, applied}
+use Rattle.proto_safety.proofs.Tables.{same_key-true, get-put_same, get-put_other, same_some}
 use Rattle.rp_world.specs.Store.{IsRecord, AreRecords}
-use Rattle.rp_world.proofs.KeyTables.{same_key-true, get_put}
-use Rattle.rp_world.proofs.KeyPlaces.{get-put_other}
-
-same_some : {A : Type 0} (o : Option A) (a b : A) → o ≡ Some a → o ≡ Some b → a ≡ b
-same_some o a b p q = cc
 
 later : {c a : ℕ} {r : Record} → IsRecord c a r → IsRecord c (a + 1) r
 later h = record { long = h.long; granted = omega (arith, h.granted) }
@@ -26,7 +22,7 @@ records-put c a t k r h is j s has = by (same_key k j) refl
     by : (b : Bool) → same_key k j ≡ b → IsRecord c (a + 1) s
     by true same =
         let e : k ≡ j = same_key-true k j same in
-        let there : get (put t k r) j ≡ Some r = rw (sym e) (get_put t k r) in
+        let there : get (put t k r) j ≡ Some r = rw (sym e) (get-put_same t k r) in
         let v : r ≡ s = same_some (get (put t k r) j) r s there has in rw (sym v) is
     by false ne = later (h j s (sym (get-put_other t j k r ne) ∙ has))
 
