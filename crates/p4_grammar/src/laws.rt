@@ -13,4 +13,5 @@ pub fn programs_are_read()
     ensures complete { (w : List TokenValue) (x : ProgramValue) → program x w → programs_of w ≡ Ok x }
     ensures one_tree { (w : List TokenValue) (x y : ProgramValue) → program x w → program y w → x ≡ y }
     ensures fault { (w r : List TokenValue) → programs_of w ≡ Err r → IsFault program w r }
+    ensures one_fault { (w r : List TokenValue) → IsFault program w r → programs_of w ≡ Err r }
 {}
