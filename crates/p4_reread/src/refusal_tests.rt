@@ -10,13 +10,16 @@ const FRONT: &[u8] =
     b"parser P(packet_in p, out hs h, inout ms m, inout std_t std) { state start { transition accept; } } \
     control I(inout hs h, inout ms m, inout std_t std) { ";
 
-// What a text is refused with. One exit alone drops a tree: the proof of each is long.
-pub fn fault(alloc: Global, text: &[u8]) -> Option<Refused> {
+// Whether a text has a tree, or why it has none. One exit alone drops a tree: the proof of each is long.
+pub fn verdict(alloc: Global, text: &[u8]) -> Result<(), ParseEnd> {
     match parse(alloc, text) {
-        Err(ParseEnd::Refused(refused)) => Some(refused),
-        Err(ParseEnd::NoMemory) => None,
-        Ok(_) => None,
+        Ok(_) => Ok(()),
+        Err(end) => Err(end),
     }
+}
+
+fn refused(at: u64, why: Why) -> Result<(), ParseEnd> {
+    Err(ParseEnd::Refused(Refused { at, why }))
 }
 
 // So many times a piece, behind a front.
@@ -83,7 +86,7 @@ fn bad_bytes_have_their_places(rt: HostRuntime) {
         // a word that can't be a name, before a number
         (b"typedef if 0y".as_slice(), 11, Why::BadNumber),
     ] {
-        assert_eq!(rt; fault(rt.alloc(), text), Some(Refused { at, why }));
+        assert_eq!(rt; verdict(rt.alloc(), text), refused(at, why));
     }
 }
 
@@ -131,7 +134,7 @@ fn mixed_operators_have_their_places(rt: HostRuntime) {
         // an operator behind a name, outside an expression
         (b"header h_t > x".as_slice(), 11, Why::Mixed),
     ] {
-        assert_eq!(rt; fault(rt.alloc(), text), Some(Refused { at, why }));
+        assert_eq!(rt; verdict(rt.alloc(), text), refused(at, why));
     }
 }
 
@@ -171,7 +174,7 @@ fn unexpected_tokens_have_their_places(rt: HostRuntime) {
         // a slice of one number
         (b"const bool b = x[1];".as_slice(), 18, Why::Unexpected),
     ] {
-        assert_eq!(rt; fault(rt.alloc(), text), Some(Refused { at, why }));
+        assert_eq!(rt; verdict(rt.alloc(), text), refused(at, why));
     }
 }
 
@@ -203,10 +206,7 @@ fn unexpected_tokens_of_controls_have_their_places(rt: HostRuntime) -> Result<()
         text.append(FRONT)?;
         text.append(rest)?;
         let at = FRONT.len() as u64 + behind;
-        assert_eq!(rt;
-            fault(rt.alloc(), text.as_slice()),
-            Some(Refused { at, why })
-        );
+        assert_eq!(rt; verdict(rt.alloc(), text.as_slice()), refused(at, why));
     }
     Ok(())
 }
@@ -235,10 +235,7 @@ fn counts_have_their_limits(rt: HostRuntime) -> Result<(), Fail> {
         (b"", b"else if;", 128, 0, unexpected),
     ] {
         let text = repeated(rt.alloc(), front, piece, times)?;
-        assert_eq!(rt;
-            fault(rt.alloc(), text.as_slice()),
-            Some(Refused { at, why })
-        );
+        assert_eq!(rt; verdict(rt.alloc(), text.as_slice()), refused(at, why));
     }
     Ok(())
 }
@@ -252,10 +249,7 @@ fn texts_have_a_limit(rt: HostRuntime) -> Result<(), Fail> {
         (b"$", 262145, 0, Why::TooLong),
     ] {
         let text = repeated(rt.alloc(), b"", piece, times)?;
-        assert_eq!(rt;
-            fault(rt.alloc(), text.as_slice()),
-            Some(Refused { at, why })
-        );
+        assert_eq!(rt; verdict(rt.alloc(), text.as_slice()), refused(at, why));
     }
     Ok(())
 }
