@@ -1,5 +1,5 @@
 -- Statements of a block that are read in turn, at the ends of their loop.
-use Rattle.std.proofs.Common.{◌≡◌, ℕ, zero, suc, ◌<◌, Bool, true, false, List, [], ◌∷◌, Result, Ok, Err, Option, Some, None, Bor, refl, sym, ap, ◌∙◌, arith}
+use Rattle.std.proofs.Common.{◌≡◌, ℕ, zero, suc, ◌<◌, Bool, true, false, List, [], Result, Ok, Err, Option, Some, None, Bor, refl, sym, ap, ◌∙◌, arith}
 use Rattle.p4_lex.specs.declared.token.Token.{Token}
 use Rattle.p4_lex.specs.declared.token.Sign.TheVariants as sign
 use Rattle.p4_ast.specs.declared.statement.P4Stmt.{P4Stmt}
@@ -8,7 +8,7 @@ use Rattle.p4_grammar.specs.declared.mark.Piece.{Piece}
 use Rattle.p4_grammar.specs.Tokens.{is, but}
 use Rattle.p4_grammar.specs.Trees.{block_of}
 use Rattle.p4_parse.specs.Blocks.{block_rest_at}
-use Rattle.p4_grammar.specs.Forms.{Gives, Reader, ◌>>=◌, hand, many_at, taken_at}
+use Rattle.p4_grammar.specs.Forms.{Gives, Reader, hand, many_at, taken_at}
 use Rattle.p4_read.proofs.Loops.{kept_done, closed_with}
 
 pub kept_none : (p : Reader Piece) (at : ℕ) (front : List P4Stmt) (m : ℕ) (w : List Token) → front ≡ [] → closed_with at front (many_at m (but sign.CloseBrace) p w) ≡ block_rest_at m p at w

@@ -1,5 +1,5 @@
 -- Where the tokens of a program are refused behind its controls, or behind its end.
-use Rattle.std.proofs.Common.{◌≡◌, ◌≤◌, ◌+◌, ℕ, suc, List, [], ◌∷◌, length, Result, Ok, Err, Option, Some, None, Bor, refl, subst, arith}
+use Rattle.std.proofs.Common.{◌≡◌, ◌≤◌, ◌+◌, ℕ, suc, List, [], ◌∷◌, length, Ok, Err, Option, Some, None, Bor, refl, subst, arith}
 use Rattle.p4_lex.specs.declared.token.Token.{Token}
 use Rattle.p4_ast.specs.declared.parser.P4Parser.{P4Parser}
 use Rattle.p4_ast.specs.declared.control.P4Ingress.{P4Ingress}

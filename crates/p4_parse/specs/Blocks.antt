@@ -1,8 +1,6 @@
 -- A block behind its first sign, and a branch behind `else`.
 use Rattle.std.specs.Prelude.{ℕ, [], ◌∷◌, Some}
 use Rattle.p4_lex.specs.declared.token.Sign.TheVariants as sign
-use Rattle.p4_lex.specs.declared.token.Token.{Token}
-use Rattle.p4_ast.specs.declared.statement.P4Stmt.{P4Stmt}
 use Rattle.p4_ast.specs.declared.statement.P4Block.{P4Block}
 use Rattle.p4_ast.specs.declared.statement.P4Cond.{P4Cond}
 use Rattle.p4_grammar.specs.declared.mark.Piece.{Piece}

@@ -9,11 +9,11 @@ ghost use Rattle.p4_parse.specs.Blocks.{block_rest_at, behind_else_at};
 use p4_ast::{P4Block, P4Cond, P4If, P4Stmt};
 use p4_grammar::Piece;
 use p4_lex::{Sign, Token};
-use p4_read::typedefs::Typedefs;
 use p4_read::condition::cond_of;
 use p4_read::name::is_type_next;
 use p4_read::statement::{key_of, name_led_of, word_var_of};
 use p4_read::token::{Reading, is_next, is_other_next, name_of, sign_of};
+use p4_read::typedefs::Typedefs;
 use p4_read::value::Made;
 use sqlite_items::Items;
 use std::alloc::Global;
@@ -241,7 +241,12 @@ fn stmt_in_of<'a>(
 // A statement.
 #[cycle(statements)]
 #[tactic(auto, unfolding(p4_grammar::specs::ReadingStatements::stmt_at))]
-fn stmt_of<'a>(alloc: Global, fuel: usize, env: &Typedefs, tokens: &'a [Token]) -> Reading<'a, Piece>
+fn stmt_of<'a>(
+    alloc: Global,
+    fuel: usize,
+    env: &Typedefs,
+    tokens: &'a [Token],
+) -> Reading<'a, Piece>
     ensures { Gives (λ x. (x.0, x.1.now)) (λ e. e.now) result (stmt_at fuel env.now tokens.now) }
 {
     if fuel == 0 {

@@ -10,7 +10,6 @@ use crate::block::block_of;
 use crate::section::{Section, sections_until};
 use p4_ast::{P4Action, P4Cell, P4Field, P4Ingress, P4Local, P4Number, P4Param, P4Type};
 use p4_lex::{Sign, Token};
-use p4_read::typedefs::Typedefs;
 use p4_read::declaration::const_of;
 use p4_read::name::{bool_type_of, name_type_of, place_of_type, std_type_of, type_of};
 use p4_read::parser::param_of;
@@ -18,6 +17,7 @@ use p4_read::part::joined;
 use p4_read::statement::var_of;
 use p4_read::table::table_of;
 use p4_read::token::{Reading, is_next, name_of, number_of, sign_of};
+use p4_read::typedefs::Typedefs;
 use sqlite_items::Items;
 use std::alloc::Global;
 

@@ -9,21 +9,17 @@ use crate::control::ingress_of;
 use crate::section::{Section, sections_until};
 use p4_ast::{P4Declaration, P4Deparser, P4Emit, P4Name, P4Package, P4Parser, P4Program};
 use p4_lex::{Sign, Token};
-use p4_read::typedefs::Typedefs;
 use p4_read::declaration::{declaration_of, is_declaration_next};
 use p4_read::parser::{param_of, parser_of};
 use p4_read::path::dotted_of;
 use p4_read::token::{Reading, called_of, name_of, sign_of};
+use p4_read::typedefs::Typedefs;
 use p4_read::value::{Made, path_of};
 use sqlite_items::Items;
 use std::alloc::Global;
 
 // Adds the typedef that a declaration is.
-fn declare<'a>(
-    alloc: Global,
-    env: &mut Typedefs,
-    declaration: &P4Declaration,
-) -> Made<'a, ()>
+fn declare<'a>(alloc: Global, env: &mut Typedefs, declaration: &P4Declaration) -> Made<'a, ()>
     ensures { Gives (λ _. env.new) (λ e. e.now) result (Ok (known env.old declaration.now)) }
 {
     match declaration {

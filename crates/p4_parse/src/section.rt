@@ -4,8 +4,8 @@ ghost use Rattle.p4_grammar.specs.Forms.{Gives, many_at};
 ghost use Rattle.p4_grammar.specs.Tokens.{but};
 
 use p4_lex::{Sign, Token};
-use p4_read::typedefs::Typedefs;
 use p4_read::token::{Reading, is_other_next};
+use p4_read::typedefs::Typedefs;
 use sqlite_items::Items;
 use std::alloc::Global;
 
@@ -19,7 +19,12 @@ pub trait Section: Drop {
     ghost reader: { ℕ → List (List ℕ) → List TokenValue → Result (Self × List TokenValue) (List TokenValue) };
 
     /// Reads one.
-    fn read<'a>(alloc: Global, fuel: usize, env: &Typedefs, tokens: &'a [Token]) -> Reading<'a, Self>
+    fn read<'a>(
+        alloc: Global,
+        fuel: usize,
+        env: &Typedefs,
+        tokens: &'a [Token],
+    ) -> Reading<'a, Self>
         ensures { Gives (λ x. (x.0, x.1.now)) (λ e. e.now) result (reader fuel env.now tokens.now) };
 }
 

@@ -5,11 +5,11 @@ ghost use Rattle.p4_grammar.specs.ReadingStatements.{outcome_at, applied_at, neg
 ghost use Rattle.p4_read.specs.Made.{Makes};
 ghost use Rattle.p4_read.specs.Conditions.{cond_path_at, negated_at};
 
-use crate::typedefs::Typedefs;
 use crate::expression::{behind_of, expr_of, named_of, unary_of};
 use crate::name::names_of;
 use crate::part::joined;
 use crate::token::{Reading, called_of, is_called_next, is_name_next, is_next, name_of, sign_of};
+use crate::typedefs::Typedefs;
 use crate::value::{Made, unary_value};
 use p4_ast::{P4Cond, P4Name, P4Outcome, P4UnaryOp};
 use p4_grammar::Spelled;

@@ -6,11 +6,11 @@ ghost use Rattle.p4_grammar.specs.ReadingExpressions.{expressions_at, args_at};
 ghost use Rattle.p4_grammar.specs.Reading.{fields_at, header_at, struct_at, typedef_at, const_at, declaration_at, begins_declaration};
 ghost use Rattle.p4_read.specs.Made.{Makes};
 
-use crate::typedefs::Typedefs;
 use crate::expression::expr_of;
 use crate::name::{place_of_type, type_of};
 use crate::part::{Part, joined, parts_behind, parts_until};
 use crate::token::{Reading, is_next, name_of, sign_of};
+use crate::typedefs::Typedefs;
 use crate::value::Made;
 use p4_ast::{P4Const, P4Declaration, P4Expr, P4Field, P4Header, P4Struct, P4Typedef};
 use p4_lex::{Sign, Token};

@@ -9,7 +9,6 @@ ghost use Rattle.p4_ast.specs.declared.expression.P4BinaryOp.TheVariants as bina
 ghost use Rattle.p4_grammar.specs.ReadingExpressions.{sliced_at, named_at, plain_at, parens_at, cast_at, closed_at, open_at, unary_of_at, sum_rest_at, sum_at, compared_at, same_op_at, compare_rest_at, compare_at, and_rest_at, and_at, or_rest_at, choice_at, expr_rest_at, unary_at, expr_at, behind_at, expression_at};
 ghost use Rattle.p4_read.specs.Made.{called_in};
 
-use crate::typedefs::Typedefs;
 use crate::name::{is_type_next, names_of, slice_of, type_named, word_type_of};
 use crate::operator::{
     chain_op_of, compare_op_of, is_chain_next, is_compare_next, is_operand_next, is_sum_next,
@@ -17,6 +16,7 @@ use crate::operator::{
 };
 use crate::part::joined;
 use crate::token::{Reading, is_name_next, is_next, name_of, number_of, sign_of};
+use crate::typedefs::Typedefs;
 use crate::value::{
     binary, cast_name, cast_value, choice_value, ends_in, path_value, slice_value, unary_value,
     valid_value,

@@ -5,11 +5,11 @@ ghost use Rattle.p4_grammar.specs.Trees.{keyset_place as keyset_place_of};
 ghost use Rattle.p4_read.specs.Keysets.{tuple_end_at, masked_tuple_at, cast_keyset_at};
 ghost use Rattle.p4_grammar.specs.Reading.{any_at, masked_at, tuple_rest_at, one_behind_at, grouped_at, open_keyset_at, keyset_at};
 
-use crate::typedefs::Typedefs;
 use crate::expression::{behind_of, expr_of, parens_of, unary_of};
 use crate::name::{is_type_next, word_type_of};
 use crate::part::{Part, pair, parts_behind};
 use crate::token::{Reading, is_next, sign_of};
+use crate::typedefs::Typedefs;
 use crate::value::{cast_name, cast_value};
 use p4_ast::{P4Expr, P4Keyset, P4One};
 use p4_grammar::Spelled;

@@ -4,13 +4,13 @@ ghost use Rattle.p4_grammar.specs.Forms.{Gives};
 ghost use Rattle.p4_grammar.specs.Reading.{param_at, state_assign_at, extract_rest_at, select_at, target_at, states_at, parser_at};
 ghost use Rattle.p4_read.specs.Statements.{step_behind_at};
 
-use crate::typedefs::Typedefs;
 use crate::declaration::expressions_of;
 use crate::keyset::{keyset_of, keyset_place};
 use crate::name::names_of;
 use crate::part::{Part, joined, parts_until};
 use crate::path::{dotted_of, is_only, left_of, slice_or_none_of};
 use crate::token::{Reading, is_next, name_of, sign_of};
+use crate::typedefs::Typedefs;
 use crate::value::{path_of, place_of};
 use p4_ast::{
     P4Assign, P4Case, P4Expr, P4Extract, P4Name, P4Param, P4Parser, P4State, P4Step, P4Target,

@@ -5,8 +5,8 @@ ghost use Rattle.p4_grammar.specs.Tokens.{but, in_hand, words_at};
 ghost use Rattle.p4_read.specs.Made.{Makes};
 ghost use Rattle.p4_lex.specs.declared.token.Sign.TheVariants as sign;
 
-use crate::typedefs::Typedefs;
 use crate::token::{Reading, is_next, is_other_next, sign_of};
+use crate::typedefs::Typedefs;
 use crate::value::Made;
 use p4_lex::{Sign, Token};
 use sqlite_items::Items;
@@ -22,7 +22,12 @@ pub trait Part: Drop {
     ghost reader: { ℕ → List (List ℕ) → List TokenValue → Result (Self × List TokenValue) (List TokenValue) };
 
     /// Reads one.
-    fn read<'a>(alloc: Global, fuel: usize, env: &Typedefs, tokens: &'a [Token]) -> Reading<'a, Self>
+    fn read<'a>(
+        alloc: Global,
+        fuel: usize,
+        env: &Typedefs,
+        tokens: &'a [Token],
+    ) -> Reading<'a, Self>
         ensures { Gives (λ x. (x.0, x.1.now)) (λ e. e.now) result (reader fuel env.now tokens.now) };
 }
 

@@ -6,13 +6,13 @@ ghost use Rattle.p4_grammar.specs.Trees.{read_piece as read_piece_of, write_piec
 ghost use Rattle.p4_grammar.specs.ReadingStatements.{var_at, var_rest_at, var_piece as var_piece_of, read_rest_at, assign_end_at, assign_at, write_rest_at, valid_rest_at, path_led_at, name_led_at, key_at};
 ghost use Rattle.p4_read.specs.Statements.{assigned_expr_at, called_or_assign_at, applied_stmt_at, dot_led_at, call_stmt_at};
 
-use crate::typedefs::Typedefs;
 use crate::declaration::args_of;
 use crate::expression::{expr_of, front_of};
 use crate::name::{names_of, place_of_type, type_named, type_of, word_type_of};
 use crate::part::{Part, joined};
 use crate::path::{is_only, left_of, slice_or_none_of};
 use crate::token::{Reading, is_name_next, is_next, name_of, sign_of};
+use crate::typedefs::Typedefs;
 use crate::value::{ends_in, path_of, place_of};
 use p4_ast::{
     P4Apply, P4Assign, P4Callstmt, P4Expr, P4Keystmt, P4Left, P4Name, P4Read, P4Stmt, P4Type,

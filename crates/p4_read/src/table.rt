@@ -5,12 +5,12 @@ ghost use Rattle.p4_grammar.specs.Trees.{is_none, with_default as with_default_o
 ghost use Rattle.p4_grammar.specs.Reading.{match_at, keys_at, acts_at, call_at, start_of as start_is, default_at, entries_at, size_at, properties_at, table_at};
 ghost use Rattle.p4_read.specs.Tables.{default_behind_at, entries_behind_at, after_const_at};
 
-use crate::typedefs::Typedefs;
 use crate::declaration::args_of;
 use crate::expression::expr_of;
 use crate::keyset::{keyset_of, keyset_place};
 use crate::part::{Part, parts_until};
 use crate::token::{Reading, is_next, name_of, number_of, sign_of};
+use crate::typedefs::Typedefs;
 use p4_ast::{
     P4Acts, P4Call, P4Default, P4Entries, P4Entry, P4Key, P4Keys, P4Match, P4Name, P4Size, P4Table,
 };

@@ -1,5 +1,3 @@
-use Rattle.std.proofs.Common.{◌≡◌, Ok, arith}
-use Rattle.std.proofs.lemmas.Grind.{common_steps}
 use Rattle.std.proofs.lemmas.Result.{err_from_is_err_and}
 use Rattle.p4_parse.proofs.Wholes.{Fronted, deparser_fails, package_fails}
 use Rattle.p4_parse.proofs.program.program_of.Goals as goal

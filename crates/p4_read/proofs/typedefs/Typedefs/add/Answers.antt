@@ -11,4 +11,4 @@ returns-clause-ok c =
     let owned = c.extend_from_slice.new.self in
     let is : owned.items ≡ c.args.name.now = grind (arith, common_steps) in
     map_added (λ name. name.items) (bytes_eq owned.items) ks c.insert.new.self.keys owned c.in_ok-insert.ensures.keys
-      ∙ (ap (λ (x : List ℕ). named (map (λ name. name.items) ks) x) is ∙ ap (λ (env : List (List ℕ)). named env c.args.name.now) c.self.view_is)
+    ∙ (ap (λ (x : List ℕ). named (map (λ name. name.items) ks) x) is ∙ ap (λ (env : List (List ℕ)). named env c.args.name.now) c.self.view_is)

@@ -1,4 +1,4 @@
-use Rattle.std.proofs.Common.{◌≡◌, ℕ, List, ap, ◌∙◌}
+use Rattle.std.proofs.Common.{ℕ, List, ap, ◌∙◌}
 use Rattle.std.specs.Str.{bytes_eq}
 use Rattle.p4_grammar.specs.Values.{has}
 use Rattle.p4_read.proofs.Names.{any_map}
