@@ -20,3 +20,4 @@ pub mod States
 pub mod Steps
 pub mod Tables
 pub mod Programs
+pub mod Places

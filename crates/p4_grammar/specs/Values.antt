@@ -1,5 +1,6 @@
 -- What expressions are made of: operators, and values with the mark of their spelling.
-use Rattle.std.specs.Prelude.{ℕ, Bool, true, false, cond, List, [], ◌∷◌, map, Result, Ok, Err, Option, Some, None, codes}
+use Rattle.std.specs.Prelude.{ℕ, Bool, true, false, cond, if◌then◌else◌, List, [], ◌∷◌, ◌++◌, map, Result, Ok, Err, Option, Some, None, codes}
+use Rattle.std.specs.List.{list_any}
 use Rattle.std.specs.Str.{bytes_eq}
 use Rattle.p4_lex.specs.declared.token.Sign.{Sign}
 use Rattle.p4_lex.specs.declared.token.Sign.TheVariants as sign
@@ -25,17 +26,21 @@ use Rattle.p4_grammar.specs.declared.mark.Mark.TheVariants as mark
 use Rattle.p4_grammar.specs.declared.mark.Spelled.{Spelled}
 use Rattle.p4_grammar.specs.Tokens.{test, in_hand}
 
--- the typedefs that are declared, the latest first
+-- the names of the typedefs that are declared, each once, as they come
 abbrev pub Env : Type 0
 Env = List (List ℕ)
 
+-- whether a typedef has this name
 abbrev pub has : Env → List ℕ → Bool
-has [] x = false
-has (y ∷ env) x = cond (bytes_eq y x) true (has env x)
+has env x = list_any (bytes_eq x) env
+
+-- these names and this one, each once
+abbrev pub named : Env → List ℕ → Env
+named env x = if has env x then env else env ++ x ∷ []
 
 -- the typedefs behind a declaration
 abbrev pub known : Env → P4Declaration → Env
-known env (declaration.Typedef t) = t.name.text ∷ env
+known env (declaration.Typedef t) = named env t.name.text
 known env (declaration.Header h) = env
 known env (declaration.Struct s) = env
 known env (declaration.Const c) = env

@@ -1,2 +1,3 @@
 pub mod Loops
 pub mod Paths
+pub mod Names

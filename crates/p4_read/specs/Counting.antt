@@ -1,5 +1,5 @@
 -- The four counts that keep trees shallow, over tokens alone.
-use Rattle.std.specs.Prelude.{ℕ, ◌+◌, ◌-◌, List, [], ◌∷◌, Bool, true, false, ◌||◌, ◌&&◌, Option, Some, None, if◌then◌else◌, nat_lt}
+use Rattle.std.specs.Prelude.{ℕ, ◌+◌, ◌-◌, List, [], ◌∷◌, Bool, false, ◌||◌, ◌&&◌, Option, Some, None, if◌then◌else◌, nat_lt}
 use Rattle.p4_lex.specs.declared.token.Sign.TheVariants as sign
 use Rattle.p4_lex.specs.declared.token.Token.{Token}
 use Rattle.p4_grammar.specs.Tokens.{in_hand, one_of}

@@ -1,13 +1,12 @@
 -- Parts of tables that are functions of their own.
-use Rattle.std.specs.Prelude.{ℕ, Bool, true, false, List, [], ◌∷◌, Option, Some}
+use Rattle.std.specs.Prelude.{ℕ, Bool, true, false, Some}
 use Rattle.p4_lex.specs.declared.token.Sign.TheVariants as sign
-use Rattle.p4_ast.specs.declared.declaration.P4Field.{P4Field}
 use Rattle.p4_grammar.specs.declared.mark.Properties.{Properties}
-use Rattle.p4_grammar.specs.Forms.{Reader, bind_at, either_at, many_at}
-use Rattle.p4_grammar.specs.Tokens.{in_hand, words_at}
+use Rattle.p4_grammar.specs.Forms.{Reader, bind_at, either_at}
+use Rattle.p4_grammar.specs.Tokens.{in_hand}
 use Rattle.p4_grammar.specs.Values.{Env}
 use Rattle.p4_grammar.specs.Trees.{with_default, with_entries}
-use Rattle.p4_grammar.specs.Reading.{Part, default_at, entries_at, properties_at, typed_at}
+use Rattle.p4_grammar.specs.Reading.{Part, default_at, entries_at, properties_at}
 
 -- the default action, and the properties behind it
 abbrev pub default_behind_at : ℕ → Env → ℕ → Properties → Part

@@ -9,11 +9,11 @@ use crate::expression::{behind_of, expr_of, named_of, unary_of};
 use crate::name::names_of;
 use crate::part::joined;
 use crate::token::{Reading, called_of, is_called_next, is_name_next, is_next, name_of, sign_of};
+use crate::typedefs::Typedefs;
 use crate::value::{Made, unary_value};
 use p4_ast::{P4Cond, P4Name, P4Outcome, P4UnaryOp};
 use p4_grammar::Spelled;
 use p4_lex::{Sign, Token};
-use rp_base::Bytes;
 use sqlite_items::Items;
 use std::alloc::Global;
 
@@ -71,7 +71,7 @@ fn place_or(at: u64, other: Option<u64>) -> u64
 fn cond_rest_of<'a>(
     alloc: Global,
     fuel: usize,
-    env: &[Bytes],
+    env: &Typedefs,
     not: Option<u64>,
     x: Spelled,
     tokens: &'a [Token],
@@ -87,7 +87,7 @@ fn cond_rest_of<'a>(
 fn cond_path_of<'a>(
     alloc: Global,
     fuel: usize,
-    env: &[Bytes],
+    env: &Typedefs,
     not: Option<u64>,
     first: P4Name,
     tokens: &'a [Token],
@@ -106,7 +106,7 @@ fn cond_path_of<'a>(
 fn cond_named_of<'a>(
     alloc: Global,
     fuel: usize,
-    env: &[Bytes],
+    env: &Typedefs,
     not: Option<u64>,
     first: P4Name,
     tokens: &'a [Token],
@@ -128,7 +128,7 @@ fn cond_named_of<'a>(
 fn negated_of<'a>(
     alloc: Global,
     fuel: usize,
-    env: &[Bytes],
+    env: &Typedefs,
     tokens: &'a [Token],
 ) -> Reading<'a, P4Cond>
     ensures { Gives (λ x. (x.0, x.1.now)) (λ e. e.now) result (negated_at fuel env.now tokens.now) }
@@ -147,7 +147,7 @@ fn negated_of<'a>(
 pub fn cond_of<'a>(
     alloc: Global,
     fuel: usize,
-    env: &[Bytes],
+    env: &Typedefs,
     tokens: &'a [Token],
 ) -> Reading<'a, P4Cond>
     ensures { Gives (λ x. (x.0, x.1.now)) (λ e. e.now) result (cond_at fuel env.now tokens.now) }

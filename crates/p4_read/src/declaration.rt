@@ -10,10 +10,10 @@ use crate::expression::expr_of;
 use crate::name::{place_of_type, type_of};
 use crate::part::{Part, joined, parts_behind, parts_until};
 use crate::token::{Reading, is_next, name_of, sign_of};
+use crate::typedefs::Typedefs;
 use crate::value::Made;
 use p4_ast::{P4Const, P4Declaration, P4Expr, P4Field, P4Header, P4Struct, P4Typedef};
 use p4_lex::{Sign, Token};
-use rp_base::Bytes;
 use sqlite_items::Items;
 use std::alloc::Global;
 
@@ -26,7 +26,7 @@ impl Part for P4Expr {
     fn read<'a>(
         alloc: Global,
         fuel: usize,
-        env: &[Bytes],
+        env: &Typedefs,
         tokens: &'a [Token],
     ) -> Reading<'a, P4Expr> {
         let (value, rest) = expr_of(alloc, fuel, env, tokens)?;
@@ -39,7 +39,7 @@ impl Part for P4Expr {
 pub fn expressions_of<'a>(
     alloc: Global,
     fuel: usize,
-    env: &[Bytes],
+    env: &Typedefs,
     tokens: &'a [Token],
 ) -> Reading<'a, Items<P4Expr>>
     ensures { Gives (λ x. (x.0, x.1.now)) (λ e. e.now) result (expressions_at fuel env.now tokens.now) }
@@ -55,7 +55,7 @@ pub fn expressions_of<'a>(
 pub fn args_of<'a>(
     alloc: Global,
     fuel: usize,
-    env: &[Bytes],
+    env: &Typedefs,
     tokens: &'a [Token],
 ) -> Reading<'a, Items<P4Expr>>
     ensures { Gives (λ x. (x.0, x.1.now)) (λ e. e.now) result (args_at fuel env.now tokens.now) }
@@ -79,7 +79,7 @@ impl Part for P4Field {
     fn read<'a>(
         _alloc: Global,
         _fuel: usize,
-        _env: &[Bytes],
+        _env: &Typedefs,
         tokens: &'a [Token],
     ) -> Reading<'a, P4Field> {
         let (type_, rest) = type_of(tokens)?;
@@ -91,32 +91,47 @@ impl Part for P4Field {
 }
 
 #[tactic(auto, unfolding(p4_grammar::specs::Reading::fields_at))]
-fn fields_of<'a>(alloc: Global, fuel: usize, tokens: &'a [Token]) -> Reading<'a, Items<P4Field>>
+fn fields_of<'a>(
+    alloc: Global,
+    fuel: usize,
+    env: &Typedefs,
+    tokens: &'a [Token],
+) -> Reading<'a, Items<P4Field>>
     ensures { Gives (λ x. (x.0, x.1.now)) (λ e. e.now) result (fields_at fuel tokens.now) }
 {
     let (_, rest) = sign_of(Sign::OpenBrace, tokens)?;
-    let (fields, rest) = parts_until(alloc, Sign::CloseBrace, fuel, &[], rest)?;
+    let (fields, rest) = parts_until(alloc, Sign::CloseBrace, fuel, env, rest)?;
     let (_, rest) = sign_of(Sign::CloseBrace, rest)?;
     Ok((fields, rest))
 }
 
 #[tactic(auto, unfolding(p4_grammar::specs::Reading::header_at))]
-fn header_of(alloc: Global, fuel: usize, tokens: &[Token]) -> Reading<'_, P4Header>
+fn header_of<'a>(
+    alloc: Global,
+    fuel: usize,
+    env: &Typedefs,
+    tokens: &'a [Token],
+) -> Reading<'a, P4Header>
     ensures { Gives (λ x. (x.0, x.1.now)) (λ e. e.now) result (header_at fuel tokens.now) }
 {
     let (at, rest) = sign_of(Sign::Header, tokens)?;
     let (name, rest) = name_of(rest)?;
-    let (fields, rest) = fields_of(alloc, fuel, rest)?;
+    let (fields, rest) = fields_of(alloc, fuel, env, rest)?;
     Ok((P4Header { at, name, fields }, rest))
 }
 
 #[tactic(auto, unfolding(p4_grammar::specs::Reading::struct_at))]
-fn struct_of(alloc: Global, fuel: usize, tokens: &[Token]) -> Reading<'_, P4Struct>
+fn struct_of<'a>(
+    alloc: Global,
+    fuel: usize,
+    env: &Typedefs,
+    tokens: &'a [Token],
+) -> Reading<'a, P4Struct>
     ensures { Gives (λ x. (x.0, x.1.now)) (λ e. e.now) result (struct_at fuel tokens.now) }
 {
     let (at, rest) = sign_of(Sign::Struct, tokens)?;
     let (name, rest) = name_of(rest)?;
-    let (fields, rest) = fields_of(alloc, fuel, rest)?;
+    let (fields, rest) = fields_of(alloc, fuel, env, rest)?;
     Ok((P4Struct { at, name, fields }, rest))
 }
 
@@ -136,7 +151,7 @@ fn typedef_of(tokens: &[Token]) -> Reading<'_, P4Typedef>
 pub fn const_of<'a>(
     alloc: Global,
     fuel: usize,
-    env: &[Bytes],
+    env: &Typedefs,
     tokens: &'a [Token],
 ) -> Reading<'a, P4Const>
     ensures { Gives (λ x. (x.0, x.1.now)) (λ e. e.now) result (const_at fuel env.now tokens.now) }
@@ -163,17 +178,17 @@ pub fn const_of<'a>(
 pub fn declaration_of<'a>(
     alloc: Global,
     fuel: usize,
-    env: &[Bytes],
+    env: &Typedefs,
     tokens: &'a [Token],
 ) -> Reading<'a, P4Declaration>
     ensures { Gives (λ x. (x.0, x.1.now)) (λ e. e.now) result (declaration_at fuel env.now tokens.now) }
 {
     if is_next(Sign::Header, tokens) {
-        let (header, rest) = header_of(alloc, fuel, tokens)?;
+        let (header, rest) = header_of(alloc, fuel, env, tokens)?;
         return Ok((P4Declaration::Header(header), rest));
     }
     if is_next(Sign::Struct, tokens) {
-        let (struct_, rest) = struct_of(alloc, fuel, tokens)?;
+        let (struct_, rest) = struct_of(alloc, fuel, env, tokens)?;
         return Ok((P4Declaration::Struct(struct_), rest));
     }
     if is_next(Sign::Typedef, tokens) {

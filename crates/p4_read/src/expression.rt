@@ -16,6 +16,7 @@ use crate::operator::{
 };
 use crate::part::joined;
 use crate::token::{Reading, is_name_next, is_next, name_of, number_of, sign_of};
+use crate::typedefs::Typedefs;
 use crate::value::{
     binary, cast_name, cast_value, choice_value, ends_in, path_value, slice_value, unary_value,
     valid_value,
@@ -23,7 +24,6 @@ use crate::value::{
 use p4_ast::{P4BinaryOp, P4Expr, P4Name, P4Type};
 use p4_grammar::{Mark, Spelled};
 use p4_lex::{Sign, Token};
-use rp_base::Bytes;
 use sqlite_items::Items;
 use std::alloc::Global;
 
@@ -103,7 +103,7 @@ fn plain(at: u64, expr: P4Expr) -> Spelled
 pub fn parens_of<'a>(
     alloc: Global,
     fuel: usize,
-    env: &[Bytes],
+    env: &Typedefs,
     at: u64,
     name: Option<P4Name>,
     expr: P4Expr,
@@ -135,7 +135,7 @@ pub fn parens_of<'a>(
 fn cast_of<'a>(
     alloc: Global,
     fuel: usize,
-    env: &[Bytes],
+    env: &Typedefs,
     at: u64,
     tokens: &'a [Token],
 ) -> Reading<'a, Spelled>
@@ -154,7 +154,7 @@ fn cast_of<'a>(
 fn closed_of<'a>(
     alloc: Global,
     fuel: usize,
-    env: &[Bytes],
+    env: &Typedefs,
     at: u64,
     x: Spelled,
     tokens: &'a [Token],
@@ -173,7 +173,7 @@ fn closed_of<'a>(
 fn open_of<'a>(
     alloc: Global,
     fuel: usize,
-    env: &[Bytes],
+    env: &Typedefs,
     tokens: &'a [Token],
 ) -> Reading<'a, Spelled>
     ensures { Gives (λ x. (x.0, x.1.now)) (λ e. e.now) result (open_at env.now (unary_at fuel env.now) (expr_at fuel env.now) tokens.now) }
@@ -192,7 +192,7 @@ fn open_of<'a>(
 fn operand_of<'a>(
     alloc: Global,
     fuel: usize,
-    env: &[Bytes],
+    env: &Typedefs,
     tokens: &'a [Token],
 ) -> Reading<'a, Spelled>
     ensures { Gives (λ x. (x.0, x.1.now)) (λ e. e.now) result (unary_of_at fuel env.now (unary_at fuel env.now) (expr_at fuel env.now) tokens.now) }
@@ -220,7 +220,7 @@ fn operand_of<'a>(
 pub fn unary_of<'a>(
     alloc: Global,
     fuel: usize,
-    env: &[Bytes],
+    env: &Typedefs,
     tokens: &'a [Token],
 ) -> Reading<'a, Spelled>
     ensures { Gives (λ x. (x.0, x.1.now)) (λ e. e.now) result (unary_at fuel env.now tokens.now) }
@@ -237,7 +237,7 @@ pub fn unary_of<'a>(
 fn sum_rest_of<'a>(
     alloc: Global,
     fuel: usize,
-    env: &[Bytes],
+    env: &Typedefs,
     first: Spelled,
     tokens: &'a [Token],
 ) -> Reading<'a, Spelled>
@@ -264,7 +264,7 @@ fn sum_rest_of<'a>(
 fn sum_of<'a>(
     alloc: Global,
     fuel: usize,
-    env: &[Bytes],
+    env: &Typedefs,
     tokens: &'a [Token],
 ) -> Reading<'a, Spelled>
     ensures { Gives (λ x. (x.0, x.1.now)) (λ e. e.now) result (sum_at fuel (unary_at fuel env.now) tokens.now) }
@@ -279,7 +279,7 @@ fn sum_of<'a>(
 fn compared_of<'a>(
     alloc: Global,
     fuel: usize,
-    env: &[Bytes],
+    env: &Typedefs,
     x: Spelled,
     tokens: &'a [Token],
 ) -> Reading<'a, Spelled>
@@ -299,7 +299,7 @@ fn compared_of<'a>(
 fn more_of<'a>(
     alloc: Global,
     fuel: usize,
-    env: &[Bytes],
+    env: &Typedefs,
     op: P4BinaryOp,
     first: Spelled,
     tokens: &'a [Token],
@@ -328,7 +328,7 @@ fn more_of<'a>(
 fn same_op_of<'a>(
     alloc: Global,
     fuel: usize,
-    env: &[Bytes],
+    env: &Typedefs,
     x: Spelled,
     tokens: &'a [Token],
 ) -> Reading<'a, Spelled>
@@ -345,7 +345,7 @@ fn same_op_of<'a>(
 fn compare_rest_of<'a>(
     alloc: Global,
     fuel: usize,
-    env: &[Bytes],
+    env: &Typedefs,
     x: Spelled,
     tokens: &'a [Token],
 ) -> Reading<'a, Spelled>
@@ -363,7 +363,7 @@ fn compare_rest_of<'a>(
 fn compare_of<'a>(
     alloc: Global,
     fuel: usize,
-    env: &[Bytes],
+    env: &Typedefs,
     tokens: &'a [Token],
 ) -> Reading<'a, Spelled>
     ensures { Gives (λ x. (x.0, x.1.now)) (λ e. e.now) result (compare_at fuel (unary_at fuel env.now) tokens.now) }
@@ -377,7 +377,7 @@ fn compare_of<'a>(
 fn ands_of<'a>(
     alloc: Global,
     fuel: usize,
-    env: &[Bytes],
+    env: &Typedefs,
     first: Spelled,
     tokens: &'a [Token],
 ) -> Reading<'a, Spelled>
@@ -404,7 +404,7 @@ fn ands_of<'a>(
 fn and_rest_of<'a>(
     alloc: Global,
     fuel: usize,
-    env: &[Bytes],
+    env: &Typedefs,
     x: Spelled,
     tokens: &'a [Token],
 ) -> Reading<'a, Spelled>
@@ -419,7 +419,7 @@ fn and_rest_of<'a>(
 fn and_of<'a>(
     alloc: Global,
     fuel: usize,
-    env: &[Bytes],
+    env: &Typedefs,
     tokens: &'a [Token],
 ) -> Reading<'a, Spelled>
     ensures { Gives (λ x. (x.0, x.1.now)) (λ e. e.now) result (and_at fuel (unary_at fuel env.now) tokens.now) }
@@ -433,7 +433,7 @@ fn and_of<'a>(
 fn ors_of<'a>(
     alloc: Global,
     fuel: usize,
-    env: &[Bytes],
+    env: &Typedefs,
     first: Spelled,
     tokens: &'a [Token],
 ) -> Reading<'a, Spelled>
@@ -460,7 +460,7 @@ fn ors_of<'a>(
 fn or_rest_of<'a>(
     alloc: Global,
     fuel: usize,
-    env: &[Bytes],
+    env: &Typedefs,
     x: Spelled,
     tokens: &'a [Token],
 ) -> Reading<'a, Spelled>
@@ -475,7 +475,7 @@ fn or_rest_of<'a>(
 fn second_of<'a>(
     alloc: Global,
     fuel: usize,
-    env: &[Bytes],
+    env: &Typedefs,
     x: Spelled,
     yes: Spelled,
     tokens: &'a [Token],
@@ -493,7 +493,7 @@ fn second_of<'a>(
 fn choice_of<'a>(
     alloc: Global,
     fuel: usize,
-    env: &[Bytes],
+    env: &Typedefs,
     x: Spelled,
     tokens: &'a [Token],
 ) -> Reading<'a, Spelled>
@@ -513,7 +513,7 @@ fn choice_of<'a>(
 fn expr_rest_of<'a>(
     alloc: Global,
     fuel: usize,
-    env: &[Bytes],
+    env: &Typedefs,
     x: Spelled,
     tokens: &'a [Token],
 ) -> Reading<'a, Spelled>
@@ -530,7 +530,7 @@ fn expr_rest_of<'a>(
 pub fn expr_of<'a>(
     alloc: Global,
     fuel: usize,
-    env: &[Bytes],
+    env: &Typedefs,
     tokens: &'a [Token],
 ) -> Reading<'a, Spelled>
     ensures { Gives (λ x. (x.0, x.1.now)) (λ e. e.now) result (expr_at fuel env.now tokens.now) }
@@ -547,7 +547,7 @@ pub fn expr_of<'a>(
 pub fn behind_of<'a>(
     alloc: Global,
     fuel: usize,
-    env: &[Bytes],
+    env: &Typedefs,
     x: Spelled,
     tokens: &'a [Token],
 ) -> Reading<'a, Spelled>

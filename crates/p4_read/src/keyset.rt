@@ -9,11 +9,11 @@ use crate::expression::{behind_of, expr_of, parens_of, unary_of};
 use crate::name::{is_type_next, word_type_of};
 use crate::part::{Part, pair, parts_behind};
 use crate::token::{Reading, is_next, sign_of};
+use crate::typedefs::Typedefs;
 use crate::value::{cast_name, cast_value};
 use p4_ast::{P4Expr, P4Keyset, P4One};
 use p4_grammar::Spelled;
 use p4_lex::{Sign, Token};
-use rp_base::Bytes;
 use sqlite_items::Items;
 use std::alloc::Global;
 
@@ -22,7 +22,7 @@ use std::alloc::Global;
 fn masked_of<'a>(
     alloc: Global,
     fuel: usize,
-    env: &[Bytes],
+    env: &Typedefs,
     x: Spelled,
     tokens: &'a [Token],
 ) -> Reading<'a, P4One>
@@ -56,7 +56,7 @@ impl Part for P4One {
     fn read<'a>(
         alloc: Global,
         fuel: usize,
-        env: &[Bytes],
+        env: &Typedefs,
         tokens: &'a [Token],
     ) -> Reading<'a, P4One> {
         if is_next(Sign::Any, tokens) {
@@ -71,7 +71,7 @@ impl Part for P4One {
 fn tuple_end_of<'a>(
     alloc: Global,
     fuel: usize,
-    env: &[Bytes],
+    env: &Typedefs,
     at: u64,
     two: Items<P4One>,
     tokens: &'a [Token],
@@ -92,7 +92,7 @@ fn tuple_end_of<'a>(
 fn tuple_rest_of<'a>(
     alloc: Global,
     fuel: usize,
-    env: &[Bytes],
+    env: &Typedefs,
     at: u64,
     first: P4One,
     tokens: &'a [Token],
@@ -110,7 +110,7 @@ fn tuple_rest_of<'a>(
 fn one_behind_of<'a>(
     alloc: Global,
     fuel: usize,
-    env: &[Bytes],
+    env: &Typedefs,
     x: Spelled,
     tokens: &'a [Token],
 ) -> Reading<'a, P4Keyset>
@@ -125,7 +125,7 @@ fn one_behind_of<'a>(
 fn masked_tuple_of<'a>(
     alloc: Global,
     fuel: usize,
-    env: &[Bytes],
+    env: &Typedefs,
     at: u64,
     x: Spelled,
     tokens: &'a [Token],
@@ -152,7 +152,7 @@ fn masked_tuple_of<'a>(
 fn grouped_of<'a>(
     alloc: Global,
     fuel: usize,
-    env: &[Bytes],
+    env: &Typedefs,
     at: u64,
     x: Spelled,
     tokens: &'a [Token],
@@ -185,7 +185,7 @@ fn grouped_of<'a>(
 fn cast_keyset_of<'a>(
     alloc: Global,
     fuel: usize,
-    env: &[Bytes],
+    env: &Typedefs,
     at: u64,
     tokens: &'a [Token],
 ) -> Reading<'a, P4Keyset>
@@ -202,7 +202,7 @@ fn cast_keyset_of<'a>(
 fn open_keyset_of<'a>(
     alloc: Global,
     fuel: usize,
-    env: &[Bytes],
+    env: &Typedefs,
     tokens: &'a [Token],
 ) -> Reading<'a, P4Keyset>
     ensures { Gives (λ x. (x.0, x.1.now)) (λ e. e.now) result (open_keyset_at fuel env.now tokens.now) }
@@ -224,7 +224,7 @@ fn open_keyset_of<'a>(
 pub fn keyset_of<'a>(
     alloc: Global,
     fuel: usize,
-    env: &[Bytes],
+    env: &Typedefs,
     tokens: &'a [Token],
 ) -> Reading<'a, P4Keyset>
     ensures { Gives (λ x. (x.0, x.1.now)) (λ e. e.now) result (keyset_at fuel env.now tokens.now) }

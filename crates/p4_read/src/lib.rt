@@ -17,4 +17,5 @@ pub mod path;
 pub mod statement;
 pub mod table;
 pub mod token;
+pub mod typedefs;
 pub mod value;

@@ -10,12 +10,12 @@ use crate::name::names_of;
 use crate::part::{Part, joined, parts_until};
 use crate::path::{dotted_of, is_only, left_of, slice_or_none_of};
 use crate::token::{Reading, is_next, name_of, sign_of};
+use crate::typedefs::Typedefs;
 use crate::value::{path_of, place_of};
 use p4_ast::{
     P4Assign, P4Case, P4Expr, P4Extract, P4Name, P4Param, P4Parser, P4State, P4Step, P4Target,
 };
 use p4_lex::{Sign, Token};
-use rp_base::Bytes;
 use sqlite_items::Items;
 use std::alloc::Global;
 
@@ -35,7 +35,7 @@ pub fn param_of(sign: Sign, tokens: &[Token]) -> Reading<'_, P4Param>
 fn state_assign_of<'a>(
     alloc: Global,
     fuel: usize,
-    env: &[Bytes],
+    env: &Typedefs,
     names: Items<P4Name>,
     tokens: &'a [Token],
 ) -> Reading<'a, P4Step>
@@ -74,7 +74,7 @@ fn extract_rest_of<'a>(
 fn step_behind_of<'a>(
     alloc: Global,
     fuel: usize,
-    env: &[Bytes],
+    env: &Typedefs,
     first: P4Name,
     more: Items<P4Name>,
     tokens: &'a [Token],
@@ -97,7 +97,7 @@ impl Part for P4Step {
     fn read<'a>(
         alloc: Global,
         fuel: usize,
-        env: &[Bytes],
+        env: &Typedefs,
         tokens: &'a [Token],
     ) -> Reading<'a, P4Step> {
         let (first, rest) = name_of(tokens)?;
@@ -115,7 +115,7 @@ impl Part for P4Case {
     fn read<'a>(
         alloc: Global,
         fuel: usize,
-        env: &[Bytes],
+        env: &Typedefs,
         tokens: &'a [Token],
     ) -> Reading<'a, P4Case> {
         let (keyset, rest) = keyset_of(alloc, fuel, env, tokens)?;
@@ -131,7 +131,7 @@ impl Part for P4Case {
 fn select_of<'a>(
     alloc: Global,
     fuel: usize,
-    env: &[Bytes],
+    env: &Typedefs,
     tokens: &'a [Token],
 ) -> Reading<'a, P4Target>
     ensures { Gives (λ x. (x.0, x.1.now)) (λ e. e.now) result (select_at fuel env.now tokens.now) }
@@ -150,7 +150,7 @@ fn select_of<'a>(
 fn target_of<'a>(
     alloc: Global,
     fuel: usize,
-    env: &[Bytes],
+    env: &Typedefs,
     tokens: &'a [Token],
 ) -> Reading<'a, P4Target>
     ensures { Gives (λ x. (x.0, x.1.now)) (λ e. e.now) result (target_at fuel env.now tokens.now) }
@@ -173,7 +173,7 @@ impl Part for P4State {
     fn read<'a>(
         alloc: Global,
         fuel: usize,
-        env: &[Bytes],
+        env: &Typedefs,
         tokens: &'a [Token],
     ) -> Reading<'a, P4State> {
         let (at, rest) = sign_of(Sign::State, tokens)?;
@@ -197,7 +197,7 @@ impl Part for P4State {
 fn states_of<'a>(
     alloc: Global,
     fuel: usize,
-    env: &[Bytes],
+    env: &Typedefs,
     tokens: &'a [Token],
 ) -> Reading<'a, Items<P4State>>
     ensures { Gives (λ x. (x.0, x.1.now)) (λ e. e.now) result (states_at fuel env.now tokens.now) }
@@ -213,7 +213,7 @@ fn states_of<'a>(
 pub fn parser_of<'a>(
     alloc: Global,
     fuel: usize,
-    env: &[Bytes],
+    env: &Typedefs,
     tokens: &'a [Token],
 ) -> Reading<'a, P4Parser>
     ensures { Gives (λ x. (x.0, x.1.now)) (λ e. e.now) result (parser_at fuel env.now tokens.now) }

@@ -6,9 +6,9 @@ ghost use Rattle.p4_read.specs.Made.{Makes};
 ghost use Rattle.p4_lex.specs.declared.token.Sign.TheVariants as sign;
 
 use crate::token::{Reading, is_next, is_other_next, sign_of};
+use crate::typedefs::Typedefs;
 use crate::value::Made;
 use p4_lex::{Sign, Token};
-use rp_base::Bytes;
 use sqlite_items::Items;
 use std::alloc::Global;
 
@@ -22,7 +22,12 @@ pub trait Part: Drop {
     ghost reader: { ℕ → List (List ℕ) → List TokenValue → Result (Self × List TokenValue) (List TokenValue) };
 
     /// Reads one.
-    fn read<'a>(alloc: Global, fuel: usize, env: &[Bytes], tokens: &'a [Token]) -> Reading<'a, Self>
+    fn read<'a>(
+        alloc: Global,
+        fuel: usize,
+        env: &Typedefs,
+        tokens: &'a [Token],
+    ) -> Reading<'a, Self>
         ensures { Gives (λ x. (x.0, x.1.now)) (λ e. e.now) result (reader fuel env.now tokens.now) };
 }
 
@@ -31,7 +36,7 @@ pub fn parts_until<'a, T: Part>(
     alloc: Global,
     end: Sign,
     fuel: usize,
-    env: &[Bytes],
+    env: &Typedefs,
     tokens: &'a [Token],
 ) -> Reading<'a, Items<T>>
     ensures { Gives (λ x. (x.0, x.1.now)) (λ e. e.now) result (many_at fuel (but end) (T.reader fuel env.now) tokens.now) }
@@ -57,7 +62,7 @@ pub fn parts_until<'a, T: Part>(
 fn next_part<'a, T: Part>(
     alloc: Global,
     fuel: usize,
-    env: &[Bytes],
+    env: &Typedefs,
     tokens: &'a [Token],
 ) -> Reading<'a, T>
     ensures { Gives (λ x. (x.0, x.1.now)) (λ e. e.now) result (words_at (sign.Comma ∷ []) (T.reader fuel env.now) tokens.now) }
@@ -70,7 +75,7 @@ fn next_part<'a, T: Part>(
 pub fn parts_behind<'a, T: Part>(
     alloc: Global,
     fuel: usize,
-    env: &[Bytes],
+    env: &Typedefs,
     tokens: &'a [Token],
 ) -> Reading<'a, Items<T>>
     ensures { Gives (λ x. (x.0, x.1.now)) (λ e. e.now) result (many_at fuel (in_hand sign.Comma) (words_at (sign.Comma ∷ []) (T.reader fuel env.now)) tokens.now) }

@@ -12,6 +12,7 @@ use crate::name::{names_of, place_of_type, type_named, type_of, word_type_of};
 use crate::part::{Part, joined};
 use crate::path::{is_only, left_of, slice_or_none_of};
 use crate::token::{Reading, is_name_next, is_next, name_of, sign_of};
+use crate::typedefs::Typedefs;
 use crate::value::{ends_in, path_of, place_of};
 use p4_ast::{
     P4Apply, P4Assign, P4Callstmt, P4Expr, P4Keystmt, P4Left, P4Name, P4Read, P4Stmt, P4Type,
@@ -19,7 +20,6 @@ use p4_ast::{
 };
 use p4_grammar::{Mark, Piece, Spelled};
 use p4_lex::{Sign, Token};
-use rp_base::Bytes;
 use sqlite_items::Items;
 use std::alloc::Global;
 
@@ -28,7 +28,7 @@ use std::alloc::Global;
 pub fn var_rest_of<'a>(
     alloc: Global,
     fuel: usize,
-    env: &[Bytes],
+    env: &Typedefs,
     at: u64,
     type_: P4Type,
     name: P4Name,
@@ -78,7 +78,7 @@ fn var_piece(var: P4Var) -> Piece
 pub fn var_of<'a>(
     alloc: Global,
     fuel: usize,
-    env: &[Bytes],
+    env: &Typedefs,
     tokens: &'a [Token],
 ) -> Reading<'a, P4Var>
     ensures { Gives (λ x. (x.0, x.1.now)) (λ e. e.now) result (var_at fuel env.now type_at tokens.now) }
@@ -94,7 +94,7 @@ pub fn var_of<'a>(
 pub fn word_var_of<'a>(
     alloc: Global,
     fuel: usize,
-    env: &[Bytes],
+    env: &Typedefs,
     tokens: &'a [Token],
 ) -> Reading<'a, Piece>
     ensures { Gives (λ x. (x.0, x.1.now)) (λ e. e.now) result (bind_at (var_at fuel env.now word_type_at) (λ v. done_at (var_piece_of v)) tokens.now) }
@@ -125,7 +125,7 @@ fn read_piece(left: P4Left, type_: Option<P4Type>, name: P4Name, expr: Option<P4
 fn read_rest_of<'a>(
     alloc: Global,
     fuel: usize,
-    env: &[Bytes],
+    env: &Typedefs,
     left: P4Left,
     type_: Option<P4Type>,
     name: P4Name,
@@ -160,7 +160,7 @@ fn assigned_of<'a>(left: P4Left, expr: P4Expr, tokens: &'a [Token]) -> Reading<'
 fn assign_end_of<'a>(
     alloc: Global,
     fuel: usize,
-    env: &[Bytes],
+    env: &Typedefs,
     left: P4Left,
     x: Spelled,
     tokens: &'a [Token],
@@ -192,7 +192,7 @@ fn assign_end_of<'a>(
 fn assign_of<'a>(
     alloc: Global,
     fuel: usize,
-    env: &[Bytes],
+    env: &Typedefs,
     names: Items<P4Name>,
     tokens: &'a [Token],
 ) -> Reading<'a, Piece>
@@ -222,7 +222,7 @@ fn write_piece(name: P4Name, expr: P4Expr, second: Option<P4Expr>) -> Piece
 fn write_rest_of<'a>(
     alloc: Global,
     fuel: usize,
-    env: &[Bytes],
+    env: &Typedefs,
     name: P4Name,
     tokens: &'a [Token],
 ) -> Reading<'a, Piece>
@@ -264,7 +264,7 @@ fn valid_rest_of<'a>(
 fn called_or_assign_of<'a>(
     alloc: Global,
     fuel: usize,
-    env: &[Bytes],
+    env: &Typedefs,
     names: Items<P4Name>,
     tokens: &'a [Token],
 ) -> Reading<'a, Piece>
@@ -286,7 +286,7 @@ fn called_or_assign_of<'a>(
 fn path_led_of<'a>(
     alloc: Global,
     fuel: usize,
-    env: &[Bytes],
+    env: &Typedefs,
     first: P4Name,
     more: Items<P4Name>,
     tokens: &'a [Token],
@@ -317,7 +317,7 @@ fn applied_of<'a>(first: P4Name, tokens: &'a [Token]) -> Reading<'a, Piece>
 fn dot_led_of<'a>(
     alloc: Global,
     fuel: usize,
-    env: &[Bytes],
+    env: &Typedefs,
     first: P4Name,
     tokens: &'a [Token],
 ) -> Reading<'a, Piece>
@@ -337,7 +337,7 @@ fn dot_led_of<'a>(
 fn call_of<'a>(
     alloc: Global,
     fuel: usize,
-    env: &[Bytes],
+    env: &Typedefs,
     first: P4Name,
     tokens: &'a [Token],
 ) -> Reading<'a, Piece>
@@ -359,7 +359,7 @@ fn call_of<'a>(
 pub fn name_led_of<'a>(
     alloc: Global,
     fuel: usize,
-    env: &[Bytes],
+    env: &Typedefs,
     first: P4Name,
     tokens: &'a [Token],
 ) -> Reading<'a, Piece>
@@ -385,7 +385,7 @@ pub fn name_led_of<'a>(
 pub fn key_of<'a>(
     alloc: Global,
     fuel: usize,
-    env: &[Bytes],
+    env: &Typedefs,
     tokens: &'a [Token],
 ) -> Reading<'a, Piece>
     ensures { Gives (λ x. (x.0, x.1.now)) (λ e. e.now) result (key_at fuel env.now tokens.now) }

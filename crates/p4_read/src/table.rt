@@ -10,12 +10,12 @@ use crate::expression::expr_of;
 use crate::keyset::{keyset_of, keyset_place};
 use crate::part::{Part, parts_until};
 use crate::token::{Reading, is_next, name_of, number_of, sign_of};
+use crate::typedefs::Typedefs;
 use p4_ast::{
     P4Acts, P4Call, P4Default, P4Entries, P4Entry, P4Key, P4Keys, P4Match, P4Name, P4Size, P4Table,
 };
 use p4_grammar::Properties;
 use p4_lex::{Sign, Token};
-use rp_base::Bytes;
 use sqlite_items::Items;
 use std::alloc::Global;
 
@@ -44,7 +44,7 @@ impl Part for P4Key {
     fn read<'a>(
         alloc: Global,
         fuel: usize,
-        env: &[Bytes],
+        env: &Typedefs,
         tokens: &'a [Token],
     ) -> Reading<'a, P4Key> {
         let (x, rest) = expr_of(alloc, fuel, env, tokens)?;
@@ -61,7 +61,7 @@ impl Part for P4Key {
 fn keys_of<'a>(
     alloc: Global,
     fuel: usize,
-    env: &[Bytes],
+    env: &Typedefs,
     tokens: &'a [Token],
 ) -> Reading<'a, P4Keys>
     ensures { Gives (λ x. (x.0, x.1.now)) (λ e. e.now) result (keys_at fuel env.now tokens.now) }
@@ -83,7 +83,7 @@ impl Part for P4Name {
     fn read<'a>(
         _alloc: Global,
         _fuel: usize,
-        _env: &[Bytes],
+        _env: &Typedefs,
         tokens: &'a [Token],
     ) -> Reading<'a, P4Name> {
         let (name, rest) = name_of(tokens)?;
@@ -93,13 +93,18 @@ impl Part for P4Name {
 }
 
 #[tactic(auto, unfolding(p4_grammar::specs::Reading::acts_at))]
-fn acts_of<'a>(alloc: Global, fuel: usize, tokens: &'a [Token]) -> Reading<'a, P4Acts>
+fn acts_of<'a>(
+    alloc: Global,
+    fuel: usize,
+    env: &Typedefs,
+    tokens: &'a [Token],
+) -> Reading<'a, P4Acts>
     ensures { Gives (λ x. (x.0, x.1.now)) (λ e. e.now) result (acts_at fuel tokens.now) }
 {
     let (at, rest) = sign_of(Sign::Actions, tokens)?;
     let (_, rest) = sign_of(Sign::Assign, rest)?;
     let (_, rest) = sign_of(Sign::OpenBrace, rest)?;
-    let (names, rest) = parts_until(alloc, Sign::CloseBrace, fuel, &[], rest)?;
+    let (names, rest) = parts_until(alloc, Sign::CloseBrace, fuel, env, rest)?;
     let (_, rest) = sign_of(Sign::CloseBrace, rest)?;
     Ok((P4Acts { at, names }, rest))
 }
@@ -108,7 +113,7 @@ fn acts_of<'a>(alloc: Global, fuel: usize, tokens: &'a [Token]) -> Reading<'a, P
 fn call_of<'a>(
     alloc: Global,
     fuel: usize,
-    env: &[Bytes],
+    env: &Typedefs,
     tokens: &'a [Token],
 ) -> Reading<'a, P4Call>
     ensures { Gives (λ x. (x.0, x.1.now)) (λ e. e.now) result (call_at fuel env.now tokens.now) }
@@ -136,7 +141,7 @@ fn start_of(const_: Option<u64>, at: u64) -> u64
 fn default_of<'a>(
     alloc: Global,
     fuel: usize,
-    env: &[Bytes],
+    env: &Typedefs,
     const_: Option<u64>,
     tokens: &'a [Token],
 ) -> Reading<'a, P4Default>
@@ -163,7 +168,7 @@ impl Part for P4Entry {
     fn read<'a>(
         alloc: Global,
         fuel: usize,
-        env: &[Bytes],
+        env: &Typedefs,
         tokens: &'a [Token],
     ) -> Reading<'a, P4Entry> {
         let (keyset, rest) = keyset_of(alloc, fuel, env, tokens)?;
@@ -179,7 +184,7 @@ impl Part for P4Entry {
 fn entries_of<'a>(
     alloc: Global,
     fuel: usize,
-    env: &[Bytes],
+    env: &Typedefs,
     const_: Option<u64>,
     tokens: &'a [Token],
 ) -> Reading<'a, P4Entries>
@@ -244,7 +249,7 @@ fn with_size(a: Properties, size: P4Size) -> Properties
 fn default_behind_of<'a>(
     alloc: Global,
     fuel: usize,
-    env: &[Bytes],
+    env: &Typedefs,
     left: usize,
     a: Properties,
     const_: Option<u64>,
@@ -261,7 +266,7 @@ fn default_behind_of<'a>(
 fn entries_behind_of<'a>(
     alloc: Global,
     fuel: usize,
-    env: &[Bytes],
+    env: &Typedefs,
     left: usize,
     a: Properties,
     const_: Option<u64>,
@@ -278,7 +283,7 @@ fn entries_behind_of<'a>(
 fn after_const_of<'a>(
     alloc: Global,
     fuel: usize,
-    env: &[Bytes],
+    env: &Typedefs,
     left: usize,
     a: Properties,
     at: u64,
@@ -298,7 +303,7 @@ fn after_const_of<'a>(
 fn properties_of<'a>(
     alloc: Global,
     fuel: usize,
-    env: &[Bytes],
+    env: &Typedefs,
     left: usize,
     a: Properties,
     tokens: &'a [Token],
@@ -330,7 +335,7 @@ fn properties_of<'a>(
 pub fn table_of<'a>(
     alloc: Global,
     fuel: usize,
-    env: &[Bytes],
+    env: &Typedefs,
     tokens: &'a [Token],
 ) -> Reading<'a, P4Table>
     ensures { Gives (λ x. (x.0, x.1.now)) (λ e. e.now) result (table_at fuel env.now tokens.now) }
@@ -339,7 +344,7 @@ pub fn table_of<'a>(
     let (name, rest) = name_of(rest)?;
     let (_, rest) = sign_of(Sign::OpenBrace, rest)?;
     let (keys, rest) = keys_of(alloc, fuel, env, rest)?;
-    let (acts, rest) = acts_of(alloc, fuel, rest)?;
+    let (acts, rest) = acts_of(alloc, fuel, env, rest)?;
     let none = Properties {
         default: None,
         entries: None,

@@ -1,12 +1,12 @@
 //! Expressions as they were spelled.
 ghost use Rattle.std.specs.Prelude.{◌≡◌};
 ghost use Rattle.p4_read.specs.Made.{Makes, is_some, called_in};
-ghost use Rattle.p4_grammar.specs.Values.{has as has_of, later as later_of, of_cast, of_path, is_bare as is_bare_of, cast_by, first_at, path_of as path_is, path_value as path_value_of, valid_value as valid_value_of, slice_value as slice_value_of, cast_value as cast_value_of, unary_value as unary_value_of, binary as binary_of, choice_value as choice_value_of};
+ghost use Rattle.p4_grammar.specs.Values.{later as later_of, of_cast, of_path, is_bare as is_bare_of, cast_by, first_at, path_of as path_is, path_value as path_value_of, valid_value as valid_value_of, slice_value as slice_value_of, cast_value as cast_value_of, unary_value as unary_value_of, binary as binary_of, choice_value as choice_value_of};
 
+use crate::typedefs::Typedefs;
 use p4_ast::{P4BinaryOp, P4Expr, P4Name, P4Path, P4Slice, P4Type, P4UnaryOp};
 use p4_grammar::{Mark, Spelled};
 use p4_lex::Token;
-use rp_base::Bytes;
 use sqlite_items::{Boxed, Items};
 use std::alloc::Global;
 
@@ -46,18 +46,6 @@ fn copy_type<'a>(type_: &P4Type) -> Made<'a, P4Type>
         }
         P4Type::StdT { at } => Ok(P4Type::StdT { at: *at }),
     }
-}
-
-/// Whether a typedef of this name was declared.
-pub fn has(env: &[Bytes], name: &[u8]) -> bool
-    ensures { result ≡ has_of env.now name.now }
-{
-    for other in env {
-        if other.as_slice() == name {
-            return true;
-        }
-    }
-    false
 }
 
 fn later(mark: Mark) -> Mark
@@ -122,12 +110,12 @@ pub fn is_bare(mark: &Mark) -> bool
 }
 
 /// The typedef's name that stands alone in parentheses.
-pub fn cast_name(env: &[Bytes], mark: Mark) -> Option<P4Name>
+pub fn cast_name(env: &Typedefs, mark: Mark) -> Option<P4Name>
     ensures { result ≡ cast_by env.now mark }
 {
     match mark {
         Mark::One(x) => {
-            if has(env, x.text.as_slice()) {
+            if env.has(x.text.as_slice()) {
                 Some(x)
             } else {
                 None

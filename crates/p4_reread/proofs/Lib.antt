@@ -12,3 +12,4 @@ pub mod LexWords
 pub mod LexSigns
 pub mod LexAgain
 pub mod TextAgain
+pub mod ParsedTexts

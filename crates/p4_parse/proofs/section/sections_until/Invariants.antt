@@ -1,0 +1,11 @@
+use Rattle.std.proofs.Common.{◌≡◌}
+use Rattle.p4_grammar.specs.Forms.{many_at}
+use Rattle.p4_grammar.specs.Tokens.{but}
+use Rattle.p4_read.proofs.Loops.{with_front}
+use Rattle.p4_parse.proofs.section.sections_until.Given as goal
+
+abbrev pub invariant-loop-left : goal.invariant-loop-left
+invariant-loop-left g l = with_front l.parts (many_at l.left (but l.end) (g.T.Section.reader l.fuel l.env) l.rest) ≡ many_at l.fn.fuel (but l.fn.end) (g.T.Section.reader l.fn.fuel l.fn.env) l.fn.tokens
+
+abbrev pub decreases-loop-left : goal.decreases-loop-left
+decreases-loop-left g l = l.left

@@ -1,0 +1,5 @@
+pub mod Controls
+pub mod Blocks
+pub mod Declarations
+pub mod Parsing
+pub mod ByGrammar
