@@ -19,6 +19,7 @@ use Rattle.p4_read.specs.Operators.{is_binary}
 abbrev pub ends_value : Token → Bool
 ends_value t = is_given (name t) || (is_given (number t) || one_of (sign.True ∷ sign.False ∷ sign.Close ∷ sign.CloseSlice ∷ []) t)
 
+-- the same of a token that may not be there
 abbrev pub ends_some : Option Token → Bool
 ends_some None = false
 ends_some (Some t) = ends_value t
@@ -27,6 +28,7 @@ ends_some (Some t) = ends_value t
 abbrev pub before : List Token → List Token → Bool
 before w r = if nat_lt (length r) (length w) then ends_some (slice_get w (length w - length r - 1)) else false
 
+-- the cause at a refused token: whether it is an operator between two operands, right behind an operand
 abbrev pub mixed : Bool → Why
 mixed true = why.Mixed
 mixed false = why.Unexpected
@@ -36,10 +38,12 @@ abbrev pub fault_of : ℕ → List Token → List Token → Refused
 fault_of size w [] = record { at = size; why = why.Unexpected }
 fault_of size w (t ∷ r) = record { at = t.at; why = mixed (is_binary t && before w (t ∷ r)) }
 
+-- the tree that was read, or the fault at the tokens that were left
 abbrev pub read_of : ℕ → List Token → Result P4Program (List Token) → Result P4Program Refused
 read_of size w (Ok t) = Ok t
 read_of size w (Err r) = Err (fault_of size w r)
 
+-- a count past its limit comes before what the grammar says
 abbrev pub deep_or : Option ℕ → Result P4Program Refused → Result P4Program Refused
 deep_or (Some at) read = Err (record { at = at; why = why.Deep })
 deep_or None read = read
@@ -48,6 +52,7 @@ deep_or None read = read
 abbrev pub tree_of : ℕ → List Token → Result P4Program Refused
 tree_of size w = deep_or (deep w) (read_of size w (programs_of w))
 
+-- a fault of the bytes comes before all of the tokens
 abbrev pub of_tokens : ℕ → Result (List Token) Refused → Result P4Program Refused
 of_tokens size (Ok w) = tree_of size w
 of_tokens size (Err e) = Err e

@@ -5,9 +5,11 @@ use Rattle.p4_lex.specs.declared.token.Token.{Token}
 use Rattle.p4_grammar.specs.Tokens.{in_hand, one_of}
 use Rattle.p4_read.specs.declared.deep.Counts.{Counts}
 
+-- `(`, `[` and `{`
 abbrev pub opens : Token → Bool
 opens t = one_of (sign.Open ∷ sign.OpenSlice ∷ sign.OpenBrace ∷ []) t
 
+-- `)`, `]` and `}`
 abbrev pub closes : Token → Bool
 closes t = one_of (sign.Close ∷ sign.CloseSlice ∷ sign.CloseBrace ∷ []) t
 
@@ -15,6 +17,7 @@ closes t = one_of (sign.Close ∷ sign.CloseSlice ∷ sign.CloseBrace ∷ []) t
 abbrev pub ends_run : Token → Bool
 ends_run t = one_of (sign.Semicolon ∷ sign.OpenBrace ∷ sign.CloseBrace ∷ []) t
 
+-- one more where this is so
 abbrev pub one_more : Bool → ℕ → ℕ
 one_more b n = if b then n + 1 else n
 
@@ -33,9 +36,11 @@ counted c t = record {
 abbrev pub over : Counts → Bool
 over c = nat_lt 256 (c.opened - c.closed) || (nat_lt 512 c.run || (nat_lt 4 c.ifs || nat_lt 128 c.elses))
 
+-- the counts before the first token
 abbrev pub nothing : Counts
 nothing = record { opened = 0; closed = 0; run = 0; ifs = 0; elses = 0; behind_else = false }
 
+-- the same where tokens with these counts stand before
 abbrev pub deep_from : Counts → List Token → Option ℕ
 deep_from c [] = None
 deep_from c (t ∷ ts) = if over (counted c t) then Some t.at else deep_from (counted c t) ts
