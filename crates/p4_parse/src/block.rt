@@ -1,4 +1,6 @@
 //! Blocks and branches.
+//!
+//! Functions within which no statement is read are kept out of line, so that nested statements take less of the stack.
 ghost use Rattle.std.specs.Prelude.{◌≡◌, ◌++◌, ◌∷◌, [], Ok, Some, None, true};
 ghost use Rattle.p4_grammar.specs.Forms.{Gives};
 ghost use Rattle.p4_grammar.specs.Trees.{kept as kept_of, block_of as block_is, branch as branch_is, is_open as is_open_of, opened as opened_of, if_stmt as if_stmt_of};
@@ -19,6 +21,7 @@ use sqlite_items::Items;
 use std::alloc::Global;
 
 // Appends what a block keeps of a piece.
+#[inline(never)]
 fn keep<'a>(stmts: &mut Items<P4Stmt>, piece: Piece) -> Made<'a, ()>
     ensures { Gives (λ _. stmts.new) (λ e. e.now) result (Ok (stmts.old ++ kept_of piece)) }
 {
@@ -46,6 +49,7 @@ fn block_of_one<'a>(alloc: Global, at: u64, stmt: P4Stmt) -> Made<'a, P4Block>
 }
 
 // The block that a branch is.
+#[inline(never)]
 fn branch<'a>(alloc: Global, piece: Piece) -> Made<'a, P4Block>
     ensures { Makes result (branch_is piece) }
 {
@@ -72,6 +76,7 @@ fn is_open(piece: &Piece) -> bool
 }
 
 // An `if` without `else`.
+#[inline(never)]
 fn if_piece(at: u64, cond: P4Cond, then: P4Block) -> Piece
     ensures { result ≡ opened_of true at (if_stmt_of at cond then None) }
 {
@@ -96,6 +101,7 @@ fn opened(takes_else: bool, at: u64, stmt: P4Stmt) -> Piece
 }
 
 // An `if` with `else`, where another `else` behind it would belong to it, or not.
+#[inline(never)]
 fn if_else_piece(at: u64, cond: P4Cond, then: P4Block, takes_else: bool, other: P4Block) -> Piece
     ensures { result ≡ opened_of takes_else at (if_stmt_of at cond then (Some other)) }
 {

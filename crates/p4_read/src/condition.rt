@@ -1,4 +1,6 @@
 //! Conditions.
+//!
+//! Functions within which no statement is read are kept out of line, so that nested statements take less of the stack.
 ghost use Rattle.std.specs.Prelude.{◌≡◌};
 ghost use Rattle.p4_grammar.specs.Forms.{Gives};
 ghost use Rattle.p4_grammar.specs.ReadingStatements.{outcome_at, applied_at, negated_value as negated_value_of, cond_rest_at, place_or as place_or_of, cond_named_at, cond_at};
@@ -143,6 +145,7 @@ fn negated_of<'a>(
 }
 
 /// Reads a condition.
+#[inline(never)]
 #[tactic(auto, unfolding(p4_grammar::specs::ReadingStatements::cond_at))]
 pub fn cond_of<'a>(
     alloc: Global,

@@ -1,4 +1,6 @@
 //! Statements.
+//!
+//! Functions within which no statement is read are kept out of line, so that nested statements take less of the stack.
 ghost use Rattle.std.specs.Prelude.{◌≡◌};
 ghost use Rattle.p4_grammar.specs.Forms.{Gives, bind_at, done_at};
 ghost use Rattle.p4_grammar.specs.ReadingExpressions.{type_at, word_type_at};
@@ -90,6 +92,7 @@ pub fn var_of<'a>(
 }
 
 /// Reads a variable whose type begins with a word.
+#[inline(never)]
 #[tactic(auto, unfolding(p4_grammar::specs::ReadingStatements::var_at))]
 pub fn word_var_of<'a>(
     alloc: Global,
@@ -355,6 +358,7 @@ fn call_of<'a>(
 }
 
 /// Reads a statement behind its first name.
+#[inline(never)]
 #[tactic(auto, unfolding(p4_grammar::specs::ReadingStatements::name_led_at))]
 pub fn name_led_of<'a>(
     alloc: Global,
@@ -381,6 +385,7 @@ pub fn name_led_of<'a>(
 }
 
 /// Reads a `flow_key`.
+#[inline(never)]
 #[tactic(auto, unfolding(p4_grammar::specs::ReadingStatements::key_at))]
 pub fn key_of<'a>(
     alloc: Global,
