@@ -12,6 +12,3 @@ mod table;
 mod written;
 
 pub use program::print;
-
-#[cfg(test)]
-mod tests;
