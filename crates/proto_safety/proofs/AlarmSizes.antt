@@ -15,9 +15,9 @@ use Rattle.proto_model.specs.Slot.{Slot, Lease, Round, Idle, Asking, Held, Lapse
 use Rattle.proto_model.specs.SwitchState.{Switch, Copy, slot_at, is_of, has_copies, head_node}
 use Rattle.proto_model.specs.SwitchAlarm.{Walk, alarm, due_copies, other_copies, resent_put, repeated_ask, repeated_asks, walk_order}
 use Rattle.proto_safety.specs.Sizes.{KeySized, MsgSized, ConfigSized, LeaseSized, RoundSized, SlotSized, CopySized, SwitchSized, delta_room}
-use Rattle.proto_safety.proofs.Lists.{each_append, each_if, each_take, each_weaker, length_take_le}
+use Rattle.proto_safety.proofs.Lists.{each_append, each_if, each_take, each_weaker, length_take_le, each_all}
 use Rattle.proto_safety.proofs.SizesUp.{slot_up, copy_up, config_up}
-use Rattle.proto_safety.proofs.SizesOf.{each_of, each_put, each_get, head_is, no_delta, chunk_some, chunk_few}
+use Rattle.proto_safety.proofs.SizesOf.{each_put, each_get, head_is, no_delta, chunk_some, chunk_few}
 use Rattle.proto_safety.proofs.Tables.{same_key-refl}
 use Rattle.proto_safety.proofs.AlarmInduction.{WalkKeeps, walk_kept, round_slot, new_round}
 use Rattle.proto_safety.proofs.FlowAlarm.{in_due, in_other}
@@ -217,7 +217,7 @@ module _ (n cells : ℕ) (few : cells ≤ 256) (terms : Terms) (now : ℕ) where
         nonces = omega (arith, h.nonces);
         slots = each_weaker _ _ s.slots (λ e x. record { sized = slot_up n (n + 1) (omega arith) cells e.0 e.1 x; last = inl x.last }) h.slots;
         copies = each_append _ other (map (λ (c : Copy). record c { sent = now }) due)
-            (each_of _ other (λ c i. copy_up n (n + 1) (omega arith) _ c (each_in _ s.copies c h.copies (in_other now (s.terms.t_switch / 4) 64 s.copies c i))))
+            (each_all _ other (λ c i. copy_up n (n + 1) (omega arith) _ c (each_in _ s.copies c h.copies (in_other now (s.terms.t_switch / 4) 64 s.copies c i))))
             (each_made _ (λ (c : Copy). record c { sent = now }) due (λ c i. let x = copy_up n (n + 1) (omega arith) _ c (each_in _ s.copies c h.copies (in_due now (s.terms.t_switch / 4) 64 s.copies c i)) in record { key = x.key; number = x.number; delta = x.delta }));
         sent = each_take Fits 64 _
             (each_append Fits _ (repeated_asks s now s.slots)

@@ -144,6 +144,20 @@ one_grant n key o (x ∷ xs) k s i m t j p fits (inr a) (inl b) =
     let above : k < k = after_grant k k t j p (stepped n key o x fits.0) b (grant_above n key (flow_step n key o x) xs k s i m fits.1 a) in absurd (omega arith)
 one_grant n key o (x ∷ xs) k s i m t j p fits (inr a) (inr b) = one_grant n key (flow_step n key o x) xs k s i m t j p fits.1 a b
 
+-- a flow that is granted stays granted, and its epoch rises
+step_later : {n : ℕ} {key : Key} {o u : Option Flow} {x : Entry} (f : Flow) → Stepped n key o x u → o ≡ Some f → (g : Flow) × ((u ≡ Some g) × (f.epoch ≤ g.epoch))
+step_later f (other ne) is = (f, (is, omega arith))
+step_later f first is = cc
+step_later f (next {f = g} {switch = s} {inc = i} {nonce = m}) is = let e : g.epoch ≡ f.epoch = cc in (_, (refl, omega arith))
+step_later f (put {f = g}) is = let e : g.epoch ≡ f.epoch = cc in (_, (refl, omega arith))
+step_later f (snap {f = g}) is = let e : g.epoch ≡ f.epoch = cc in (_, (refl, omega arith))
+
+pub flow_later_from : (n : ℕ) (key : Key) (o : Option Flow) (f : Flow) (more : List Entry) → FitsFrom n key o more → o ≡ Some f → (g : Flow) × ((flow_from n key o more ≡ Some g) × (f.epoch ≤ g.epoch))
+flow_later_from n key o f [] fits is = (f, (is, omega arith))
+flow_later_from n key o f (x ∷ xs) fits is =
+    let a = step_later f (stepped n key o x fits.0) is in
+    let b = flow_later_from n key (flow_step n key o x) a.0 xs fits.1 a.1.0 in (b.0, (b.1.0, omega (arith, a.1.1, b.1.1)))
+
 pub in_middle : {A : Type 0} (xs ys : List A) (e : A) → In (xs ++ e ∷ ys) e
 in_middle [] ys e = inl refl
 in_middle (x ∷ xs) ys e = inr (in_middle xs ys e)

@@ -49,22 +49,23 @@ ran_same app old new js h = ap (λ l. after app (zeros app.cell_count) l) (packs
 
 -- ---- what a flow's lists consist of
 
-in_flat_map : {A B : Type 0} (f : A → List B) (xs : List A) (y : B) → In (flat_map f xs) y → (x : A) × In (f x) y
-in_flat_map f [] y i = absurd i
-in_flat_map {A = A} f (x ∷ xs) y i = part_case (in_append (f x) (flat_map f xs) y (subst (λ l. In l y) (flat_map-cons f x xs) i)) (in_flat_map f xs y)
+pub in_flat_parts : {A B : Type 0} (f : A → List B) (xs : List A) (y : B) → In (flat_map f xs) y → (x : A) × (In xs x × In (f x) y)
+in_flat_parts f [] y i = absurd i
+in_flat_parts {A = A} f (x ∷ xs) y i = part_case (in_append (f x) (flat_map f xs) y (subst (λ l. In l y) (flat_map-cons f x xs) i)) (in_flat_parts f xs y)
   where
-    part_case : In (f x) y ⊎ In (flat_map f xs) y → (In (flat_map f xs) y → (z : A) × In (f z) y) → (z : A) × In (f z) y
-    part_case (inl j) rest = (x, j)
-    part_case (inr j) rest = rest j
+    part_case : In (f x) y ⊎ In (flat_map f xs) y → (In (flat_map f xs) y → (z : A) × (In xs z × In (f z) y)) → (z : A) × (In (x ∷ xs) z × In (f z) y)
+    part_case (inl j) rest = (x, (inl refl, j))
+    part_case (inr j) rest = let r = rest j in (r.0, (inr r.1.0, r.1.1))
 
 closed_items_in : (key : Key) (es : List Entry) (items : List Journaled) (e : ℕ) (j : Journaled) → In (closed_in key es items e) j → In items j
 closed_items_in key es items e j i = (in_filter (is_in key e) items j (in_filter (is_closed (closing_in key e es)) (journal_in key items e) j i).0).0
 
 pub front_items : (key : Key) (es : List Entry) (items : List Journaled) (e : ℕ) (j : Journaled) → In (front_in key es items e) j → In items j
-front_items key es items e j i = let d = in_flat_map (closed_in key es items) (filter (λ d. nat_lt d e) (epochs_in key es)) j i in closed_items_in key es items d.0 j d.1
+front_items key es items e j i = let d = in_flat_parts (closed_in key es items) (filter (λ d. nat_lt d e) (epochs_in key es)) j i in closed_items_in key es items d.0 j d.1.1
 
+-- an item of a serial list is one of all
 pub serial_items : (key : Key) (es : List Entry) (items : List Journaled) (j : Journaled) → In (serial_in key es items) j → In items j
-serial_items key es items j i = let d = in_flat_map (closed_in key es items) (epochs_in key es) j i in closed_items_in key es items d.0 j d.1
+serial_items key es items j i = let d = in_flat_parts (closed_in key es items) (epochs_in key es) j i in closed_items_in key es items d.0 j d.1.1
 
 pub journal_items : (key : Key) (items : List Journaled) (e : ℕ) (j : Journaled) → In (journal_in key items e) j → In items j
 journal_items key items e j i = (in_filter (is_in key e) items j i).0

@@ -15,7 +15,7 @@ use Rattle.proto_model.specs.Table.{Key, same_key}
 use Rattle.proto_model.specs.Feeds.{Each, Pairwise}
 use Rattle.proto_model.specs.Stands.{entries_of}
 use Rattle.proto_model.specs.Committed.{is_in}
-use Rattle.proto_model.specs.ReplicaRows.{entry_key, store_step}
+use Rattle.proto_model.specs.ReplicaRows.{entry_key, store_step, switch_of}
 use Rattle.proto_model.specs.ReplicaState.{Replica}
 use Rattle.proto_model.specs.Slot.{Slot, Lease, Idle, Asking, Held, Lapsed, epoch_of, is_young}
 use Rattle.proto_model.specs.SwitchState.{Copy, slot_at}
@@ -26,7 +26,7 @@ use Rattle.proto_safety.specs.Flows.{Flow, FitsFrom, GrantedIn, AckedIn, Reply, 
 use Rattle.proto_safety.specs.LeaseLaws.{HasEpoch, SlotAt}
 use Rattle.proto_safety.specs.Origins.{Origin, PutSent}
 use Rattle.proto_safety.specs.CellLaws.{Rests, SlotRests, copies_of}
-use Rattle.proto_safety.proofs.BookEpochs.{Stepped, other, first, next, put, snap, stepped, fits_parts, entry_from, grant_above, was_granted, WasGranted}
+use Rattle.proto_safety.proofs.BookEpochs.{Stepped, other, first, next, put, snap, stepped, fits_parts, entry_from, grant_above, was_granted, WasGranted, flow_later_from}
 use Rattle.proto_safety.proofs.BooksStep.{step_sent}
 use Rattle.proto_safety.proofs.CellFacts.{CellFacts, GrantedTo, SentPut, GrantSaid}
 use Rattle.proto_safety.proofs.CellsStep.{no_snap}
@@ -44,27 +44,14 @@ use Rattle.proto_safety.proofs.NoSnaps.{NoSnap, step_snapless}
 use Rattle.proto_safety.proofs.NumberSplits.{NumbersRise}
 use Rattle.proto_safety.proofs.SerialLists.{journal_in}
 use Rattle.proto_safety.proofs.StoreBooks.{SentBooks}
-use Rattle.proto_safety.proofs.SwitchSends.{IsRequest, FromSwitch}
+use Rattle.proto_safety.proofs.SwitchSends.{IsRequest}
 use Rattle.proto_safety.proofs.SwitchTable.{msg}
 use Rattle.proto_safety.proofs.Tables.{same_key-refl, same_key-true}
-use Rattle.proto_safety.proofs.WorldOrigins.{FrameOrigin, NodeOrigins}
+use Rattle.proto_safety.proofs.WorldOrigins.{FrameOrigin, NodeOrigins, from_is_switch}
 use Rattle.proto_safety.proofs.WorldPuts.{PutFrame, Known, InTurn, Awaited}
 use Rattle.proto_safety.proofs.Induction.{Keeps, KeepsGiven, keeps_all, keeps_both, Comes}
 
 -- ---- a Grant in a book
-
-step_up : {n : ℕ} {key : Key} {o u : Option Flow} {x : Entry} (f : Flow) → Stepped n key o x u → o ≡ Some f → (g : Flow) × ((u ≡ Some g) × (f.epoch ≤ g.epoch))
-step_up f (other ne) is = (f, (is, omega arith))
-step_up f first is = cc
-step_up f (next {f = g}) is = let e : g.epoch ≡ f.epoch = cc in (_, (refl, omega arith))
-step_up f (put {f = g}) is = let e : g.epoch ≡ f.epoch = cc in (_, (refl, omega arith))
-step_up f (snap {f = g}) is = let e : g.epoch ≡ f.epoch = cc in (_, (refl, omega arith))
-
-goes_up : (n : ℕ) (key : Key) (o : Option Flow) (f : Flow) (es : List Entry) → FitsFrom n key o es → o ≡ Some f → (g : Flow) × ((flow_from n key o es ≡ Some g) × (f.epoch ≤ g.epoch))
-goes_up n key o f [] fits is = (f, (is, omega arith))
-goes_up n key o f (x ∷ xs) fits is =
-    let a = step_up f (stepped n key o x fits.0) is in
-    let b = goes_up n key (flow_step n key o x) a.0 xs fits.1 a.1.0 in (b.0, (b.1.0, omega (arith, a.1.1, b.1.1)))
 
 grant_step : {n : ℕ} {key : Key} {o u : Option Flow} {x : Entry} (k s i m : ℕ) → Stepped n key o x u → x ≡ Entry.Grant key k s i m → (g : Flow) × ((u ≡ Some g) × (k ≤ g.epoch))
 grant_step {key = key} k s i m (other ne) is = absurd (both_ways _ ne (rw is (same_key-refl key)))
@@ -77,7 +64,7 @@ granted_from : (n : ℕ) (key : Key) (o : Option Flow) (es : List Entry) (k s i 
 granted_from n key o [] k s i m fits j = absurd j
 granted_from n key o (x ∷ xs) k s i m fits (inl is) =
     let a = grant_step k s i m (stepped n key o x fits.0) is in
-    let b = goes_up n key (flow_step n key o x) a.0 xs fits.1 a.1.0 in (b.0, (b.1.0, omega (arith, a.1.1, b.1.1)))
+    let b = flow_later_from n key (flow_step n key o x) a.0 xs fits.1 a.1.0 in (b.0, (b.1.0, omega (arith, a.1.1, b.1.1)))
 granted_from n key o (x ∷ xs) k s i m fits (inr j) = granted_from n key (flow_step n key o x) xs k s i m fits.1 j
 
 pub granted_to : (n : ℕ) (key : Key) (es : List Entry) (k s i m : ℕ) → FitsFrom n key None es → In es (Entry.Grant key k s i m) → GrantedTo n es key k
@@ -189,12 +176,7 @@ module _ (app : Application) (w : World) (b : Based app w) (o : OverLate w) wher
   known = known_of app.cell_count w b.0.0
 
   from_switch : (m : Msg) → In w.frames m → IsRequest m.body → (n : ℕ) × (m.from ≡ Node.Switch n)
-  from_switch m i r = from_case m.from ((each_in (FrameOrigin w.frames) w.frames m b.0.0.0.1.1.frames i).from r)
-    where
-      from_case : (x : Node) → FromSwitch x → (n : ℕ) × (x ≡ Node.Switch n)
-      from_case (Node.Switch n) h = (n, refl)
-      from_case (Node.Replica n) h = absurd h
-      from_case Node.Master h = absurd h
+  from_switch m i r = (switch_of m.from, from_is_switch m.from ((each_in (FrameOrigin w.frames) w.frames m b.0.0.0.1.1.frames i).from r))
 
   pub put_frame : (e k : ℕ) (key : Key) (delta : Delta) → SentPut w.frames key e k delta → (n : ℕ) × ((inc : ℕ) × PutFrame w.frames n inc key e k)
   put_frame e k key delta q =

@@ -1,5 +1,5 @@
 -- The cells go on while the committed book does.
-use Rattle.std.proofs.Common.{◌≡◌, ℕ, ◌+◌, ◌≤◌, List, [], ◌∷◌, ◌++◌, Option, Some, None, arith, refl, sym, ◌∙◌, ap, subst, append-nil, append_assoc, slice_get}
+use Rattle.std.proofs.Common.{◌≡◌, ℕ, ◌+◌, ◌≤◌, List, [], ◌∷◌, ◌++◌, Some, None, arith, refl, sym, ◌∙◌, ap, subst, append-nil, append_assoc, slice_get}
 use Rattle.std.proofs.lemmas.Grind.{fold-append}
 use Rattle.proto_data.specs.declared.message.Msg.{Msg}
 use Rattle.proto_data.specs.declared.message.Entry.{Entry}
@@ -10,9 +10,9 @@ use Rattle.proto_model.specs.Slot.{Slot, epoch_of}
 use Rattle.proto_model.specs.SwitchState.{slot_at}
 use Rattle.proto_model.specs.World.{SwitchNode, Fed, Journaled}
 use Rattle.proto_safety.specs.Books.{In, IsPrefix}
-use Rattle.proto_safety.specs.Flows.{Flow, FitsFrom, flow_step, flow_from, flow_of}
+use Rattle.proto_safety.specs.Flows.{Flow, FitsFrom, flow_step, flow_of}
 use Rattle.proto_safety.specs.Origins.{Origin, PutSent}
-use Rattle.proto_safety.proofs.BookEpochs.{Stepped, other, first, next, put, snap, stepped, fits_parts, in_middle}
+use Rattle.proto_safety.proofs.BookEpochs.{fits_parts, in_middle, flow_later_from}
 use Rattle.proto_safety.proofs.CellFacts.{GrantedTo, SentPut}
 use Rattle.proto_safety.proofs.CellsStep.{no_snap}
 use Rattle.proto_safety.proofs.FlowCells.{ItemsKnown, CellsOf, entry_cells}
@@ -22,20 +22,6 @@ use Rattle.proto_safety.proofs.SerialLists.{journal_in, front_in}
 use Rattle.proto_safety.proofs.SerialFronts.{front_stays}
 use Rattle.proto_safety.proofs.SwitchCells.{SwitchStands}
 use Rattle.proto_safety.proofs.SwitchNodes.{AllAt}
-
--- a flow that is granted stays granted, and its epoch rises
-step_later : {n : ℕ} {key : Key} {o u : Option Flow} {x : Entry} (f : Flow) → Stepped n key o x u → o ≡ Some f → (g : Flow) × ((u ≡ Some g) × (f.epoch ≤ g.epoch))
-step_later f (other ne) is = (f, (is, omega arith))
-step_later f first is = cc
-step_later f (next {f = g} {switch = s} {inc = i} {nonce = m}) is = let e : g.epoch ≡ f.epoch = cc in (_, (refl, omega arith))
-step_later f (put {f = g}) is = let e : g.epoch ≡ f.epoch = cc in (_, (refl, omega arith))
-step_later f (snap {f = g}) is = let e : g.epoch ≡ f.epoch = cc in (_, (refl, omega arith))
-
-flow_later_from : (n : ℕ) (key : Key) (o : Option Flow) (f : Flow) (more : List Entry) → FitsFrom n key o more → o ≡ Some f → (g : Flow) × ((flow_from n key o more ≡ Some g) × (f.epoch ≤ g.epoch))
-flow_later_from n key o f [] fits is = (f, (is, omega arith))
-flow_later_from n key o f (x ∷ xs) fits is =
-    let a = step_later f (stepped n key o x fits.0) is in
-    let b = flow_later_from n key (flow_step n key o x) a.0 xs fits.1 a.1.0 in (b.0, (b.1.0, omega (arith, a.1.1, b.1.1)))
 
 pub flow_later : (n : ℕ) (key : Key) (es more : List Entry) (f : Flow) → FitsFrom n key None (es ++ more) → flow_of n key es ≡ Some f → (g : Flow) × ((flow_of n key (es ++ more) ≡ Some g) × (f.epoch ≤ g.epoch))
 flow_later n key es more f fits flow =

@@ -28,7 +28,6 @@ use Rattle.proto_safety.proofs.CellFacts.{CellFacts, SentPut, closing_entries}
 use Rattle.proto_safety.proofs.CellsGround.{OverLate, put_frame}
 use Rattle.proto_safety.proofs.EventFrames.{at_behind}
 use Rattle.proto_safety.proofs.FlowAlarm.{in_filter}
-use Rattle.proto_safety.proofs.FlowCells.{nobody_in}
 use Rattle.proto_safety.proofs.FlowCopies.{copies_have_last}
 use Rattle.proto_safety.proofs.FlowSerial.{PutIs, MadeIn, ran, first_delta, packet_delta, rest_of}
 use Rattle.proto_safety.proofs.GroundsKept.{Standing}
@@ -36,7 +35,7 @@ use Rattle.proto_safety.proofs.HandedKept.{Ending, ending_kept, ends_leases, ope
 use Rattle.proto_safety.proofs.LeasesRest.{within_closing}
 use Rattle.proto_safety.proofs.LegalNow.{epochs_same, serial_same}
 use Rattle.proto_safety.proofs.LegalRun.{Laid, opened_laid, laid_stands, some_firsts, firsts_given, known_after, serial_stays}
-use Rattle.proto_safety.proofs.Lists.{each_at}
+use Rattle.proto_safety.proofs.Lists.{each_at, nobody}
 use Rattle.proto_safety.proofs.NumberSplits.{NumbersRise, up_to, below, at_number, past, below_next, split_at_number, up_to_next, le_not, lt_not, eq_not}
 use Rattle.proto_safety.proofs.ReleasesStep.{Shown, keyless, of_item}
 use Rattle.proto_safety.proofs.SerialLists.{epochs_in, journal_in, closed_in, serial_in, front_in, flat_map_same, filter_no, filter_like}
@@ -129,7 +128,7 @@ module _ (app : Application) (w : World) (l : Laid app w) (o : OverLate w) (s : 
 
   untouched : (key : Key) (epoch : ℕ) → Awaited w.switches w.replicas key epoch → journal_in key items epoch ≡ []
   untouched key epoch a =
-      nobody_in (journal_in key items epoch)
+      nobody (journal_in key items epoch)
       (λ j i.
       let o = item_of key epoch j i in
       (l.0.0.1.item_numbers j o.0).awaited (subst (λ x. Awaited w.switches w.replicas x j.item.epoch) (sym o.1.0) (subst (λ x. Awaited w.switches w.replicas key x) (sym o.1.1) a)))

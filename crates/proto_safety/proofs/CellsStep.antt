@@ -20,7 +20,7 @@ use Rattle.proto_model.specs.Committed.{committed_book, is_closed}
 use Rattle.proto_model.specs.Slot.{Slot, Asking, Held, epoch_of}
 use Rattle.proto_model.specs.SwitchState.{Switch, SwitchDid, Copy, Item, slot_at, lapsed, has_copies, head_node}
 use Rattle.proto_model.specs.SwitchRow.{SwitchRow, Direct, Mirrored, Late, switch_row, asked_mark}
-use Rattle.proto_model.specs.SwitchActs.{perform, item_of, late_did}
+use Rattle.proto_model.specs.SwitchActs.{perform, item_of}
 use Rattle.proto_model.specs.SwitchRows.{switch_step}
 use Rattle.proto_model.specs.World.{World, SwitchNode, Fed, Journaled}
 use Rattle.proto_safety.specs.Books.{In, committed_of}
@@ -47,7 +47,7 @@ use Rattle.proto_safety.proofs.SwitchCells.{row_from, RowFacts, ReadyFacts, Swit
 use Rattle.proto_safety.proofs.SwitchItems.{clean_delta, ItemFacts, own_flow, put_kept, direct_stands, mirrored_stands, elsewhere_stands}
 use Rattle.proto_safety.proofs.SwitchNodes.{AllAt}
 use Rattle.proto_safety.proofs.SwitchSays.{Tidy, step_says, tidy_lapsed}
-use Rattle.proto_safety.proofs.SwitchTable.{Acts, Ready, Timely, msg, fed, at_grant, at_grant_again, direct, mirrored, snapped, late, row_acts}
+use Rattle.proto_safety.proofs.SwitchTable.{Acts, Ready, Timely, msg, fed, at_grant, at_grant_again, direct, mirrored, snapped, late, row_acts, late_item}
 use Rattle.proto_safety.proofs.Tables.{same_key-true, same_some}
 use Rattle.proto_safety.proofs.Induction.{Comes}
 
@@ -314,10 +314,6 @@ module _ (app : Application) (w : World) (feeds : List Fed) (n : ℕ) (node : Sw
       subst (λ o. Left (items ++ added (λ (x : Item). record { event = event; item = x; output = made_output (perform s node.clock row).1.released (perform s node.clock row).1.sent }) o) (perform s node.clock row).0 (perform s node.clock row).1.sent) (sym none)
       (subst (λ l. Left l (perform s node.clock row).0 (perform s node.clock row).1.sent) (sym (append-nil items)) (idle_left i row a came none says))
 
-  no_late_item : (o : Option ℕ) → (late_did o).item ≡ None
-  no_late_item None = refl
-  no_late_item (Some m) = refl
-
   row_left : (event : ℕ) (i : Input) (row : SwitchRow) → Acts app s node.clock i row → input ≡ i → Each (SentNow (perform s node.clock row).0) (perform s node.clock row).1.sent →
       Left (more_items event (perform s node.clock row).1) (perform s node.clock row).0 (perform s node.clock row).1.sent
   row_left event i row (direct {key = key} {slot = slot} {epoch = epoch} {p = p} {made = made} r m e clean alone) came says =
@@ -349,7 +345,7 @@ module _ (app : Application) (w : World) (feeds : List Fed) (n : ℕ) (node : Sw
         puts = all_puts (items ++ j ∷ []) _ (put ∷ []) says st (old_puts i key slot epoch p made r came e j (slot.last + 1) refl out le (λ q. absurd (omega arith)) (λ q. absurd (omega arith)));
       }
   row_left event i row (snapped {bound = bound} r m e young) came says = absurd (not_strict s.terms.mode bound strict m)
-  row_left event i row (late {key = key} {load = load} {slot = slot} here found is old) came says = idle_row event i (Late key slot (asked_mark slot load)) (late here found is old) came (no_late_item (asked_mark slot load)) says
+  row_left event i row (late {key = key} {load = load} {slot = slot} here found is old) came says = idle_row event i (Late key slot (asked_mark slot load)) (late here found is old) came (late_item (asked_mark slot load)) says
   row_left event i row a came says = idle_row event i row a came refl says
 
   pub step_left : (event : ℕ) → Left (more_items event (switch_step app node.state node.clock input).1) (switch_step app node.state node.clock input).0 (switch_step app node.state node.clock input).1.sent

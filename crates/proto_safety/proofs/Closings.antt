@@ -10,6 +10,7 @@ use Rattle.proto_model.specs.Records.{Booked, Records, applied, entry_fits, next
 use Rattle.rp_app.specs.Application.{Delta, written}
 use Rattle.proto_model.specs.Committed.{closing_of, number_in, greater}
 use Rattle.proto_safety.proofs.Tables.{same_key-true, same_key-refl, get-put_same, get-put_other, same_some}
+use Rattle.proto_safety.proofs.EpochNumbers.{greater-None}
 
 pub record Closed (records : Records) (book : List Booked) : Type 0 where
   pub present : (key : Key) (r : Record) → get records key ≡ Some r → closing_of key r.epoch book ≡ Some r.last
@@ -18,10 +19,6 @@ pub record Closed (records : Records) (book : List Booked) : Type 0 where
 
 closing_of-push : (key : Key) (e : ℕ) (book : List Booked) (b : Booked) → closing_of key e (book ++ b ∷ []) ≡ greater (closing_of key e book) (number_in key e b.entry)
 closing_of-push key e book b = fold-append (λ c (b : Booked). greater c (number_in key e b.entry)) None book (b ∷ [])
-
-greater-None : (c : Option ℕ) → greater c None ≡ c
-greater-None None = refl
-greater-None (Some n) = refl
 
 -- an entry has this number in this epoch of this flow, and none elsewhere
 abbrev Numbers : Entry → Key → ℕ → ℕ → Type 0

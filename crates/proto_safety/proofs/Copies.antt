@@ -93,7 +93,7 @@ begun : (slots : Table Slot) (key : Key) (old slot : Slot) (copies : List Copy) 
 begun slots key old slot copies at idle h =
     each_weaker (HasSlot slots) (HasSlot (put slots key slot)) copies (λ c k. begun_copy slots key old slot c at idle k (same_key key c.key) refl) h
 
-still_leased : (now : ℕ) (lease : Lease) → is_leased lease ≡ true → is_leased (lapsed_lease now lease) ≡ true
+pub still_leased : (now : ℕ) (lease : Lease) → is_leased lease ≡ true → is_leased (lapsed_lease now lease) ≡ true
 still_leased now Idle h = h
 still_leased now (Asking nonce first) h = h
 still_leased now (Held nonce epoch expiry) h = lapse_case (nat_le expiry now) nonce epoch expiry
@@ -124,7 +124,7 @@ prepared_stored s now key later (was_asking {slot = slot} at is young) le leased
 prepared_stored s now key later (forgot mark p) le leased h = prepared_stored s now key later p le leased h
 prepared_stored s now key later (aged ages p) le leased h = prepared_stored s now key later p le leased h
 
-extended_leased : (t now sent : ℕ) (lease : Lease) → is_leased lease ≡ true → is_leased (extended t now sent lease) ≡ true
+pub extended_leased : (t now sent : ℕ) (lease : Lease) → is_leased lease ≡ true → is_leased (extended t now sent lease) ≡ true
 extended_leased t now sent Idle h = h
 extended_leased t now sent (Asking nonce first) h = h
 extended_leased t now sent (Held nonce epoch expiry) h = refl
@@ -134,7 +134,7 @@ extended_leased t now sent (Lapsed nonce epoch expiry) h = renew_case (nat_lt no
     renew_case true nonce epoch expiry later = refl
     renew_case false nonce epoch expiry later = refl
 
-acked_leased : (t now : ℕ) (lease : Lease) (best : Option (ℕ × ℕ)) → is_leased lease ≡ true → is_leased (acked_lease t now lease best) ≡ true
+pub acked_leased : (t now : ℕ) (lease : Lease) (best : Option (ℕ × ℕ)) → is_leased lease ≡ true → is_leased (acked_lease t now lease best) ≡ true
 acked_leased t now lease None h = h
 acked_leased t now lease (Some b) h = extended_leased t now b.1 lease h
 

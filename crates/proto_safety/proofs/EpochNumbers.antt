@@ -116,7 +116,11 @@ closing_from key epoch c book = fold (λ o (b : Booked). greater o (number_in ke
 abbrev pub Reaches : Option ℕ → ℕ → Type 0
 Reaches c m = (d : ℕ) × ((c ≡ Some d) × (m ≤ d))
 
-greater_left : (c o : Option ℕ) (m : ℕ) → Reaches c m → Reaches (greater c o) m
+pub greater-None : (c : Option ℕ) → greater c None ≡ c
+greater-None None = refl
+greater-None (Some n) = refl
+
+pub greater_left : (c o : Option ℕ) (m : ℕ) → Reaches c m → Reaches (greater c o) m
 greater_left None o m h = let no : None ≡ Some h.0 = h.1.0 in cc
 greater_left (Some a) None m h = h
 greater_left (Some a) (Some b) m h = let same : a ≡ h.0 = cc h.1.0 in (max a b, (refl, omega (arith, h.1.1)))

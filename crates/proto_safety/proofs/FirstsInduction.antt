@@ -14,7 +14,7 @@ use Rattle.proto_model.specs.WorldStep.{Act, Refuses, Feeds, Delivers, Passes, A
 use Rattle.proto_safety.specs.LeaseLaws.{First}
 use Rattle.proto_safety.specs.Firsts.{with_sent, switch_firsts, node_firsts, act_firsts, event_firsts, firsts_after}
 use Rattle.proto_safety.proofs.Acts.{Fits, act_fits}
-use Rattle.proto_safety.proofs.Induction.{Comes, with_fed, Keeps, event_kept}
+use Rattle.proto_safety.proofs.Induction.{Comes, with_fed, Keeps, event_kept, running_after}
 
 -- Each way in which the world changes keeps J, where I is known to hold before. Only a switch's step adds first sendings.
 pub record KeepsFirsts (app : Application) (I : World → Type 0) (J : List First → World → Type 0) : Type 0 where
@@ -59,11 +59,6 @@ module _ (app : Application) (I : World → Type 0) (J : List First → World �
       I w → J fs w → J (switch_firsts app n (Input.Packet p) fs o) (switch_takes app (with_fed w p) n (Input.Packet p) o).0
   fed_kept w fs n p None at up mark g h = absurd (false≢true up)
   fed_kept w fs n p (Some node) at up mark g h = k.feeds w fs n node p at up mark g h
-
-  running_after : (w : World) (j : ℕ) (to : Node) → runs_now w to ≡ true → runs_now (frame_passed w j) to ≡ true
-  running_after w j (Node.Switch n) up = up
-  running_after w j (Node.Replica n) up = up
-  running_after w j Node.Master up = up
 
   act_kept : (w : World) (fs : List First) (act : Act) → Fits (next_event w) act → I w → J fs w → J (act_firsts app (next_event w) fs act) (perform_act app (next_event w) act).0
   act_kept w fs (Refuses cause) fits g h = k.counts w fs g h

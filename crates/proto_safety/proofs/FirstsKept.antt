@@ -12,7 +12,7 @@ use Rattle.proto_model.specs.Table.{Key}
 use Rattle.proto_model.specs.SwitchState.{open_switch}
 use Rattle.proto_model.specs.SwitchRows.{switch_step}
 use Rattle.proto_model.specs.ReplicaState.{Replica}
-use Rattle.proto_model.specs.ReplicaRows.{store_step}
+use Rattle.proto_model.specs.ReplicaRows.{store_step, switch_of}
 use Rattle.proto_model.specs.Records.{Booked}
 use Rattle.proto_model.specs.Feeds.{Each}
 use Rattle.proto_model.specs.Stands.{entries_of}
@@ -37,7 +37,7 @@ use Rattle.proto_safety.proofs.StoreStands.{book_after}
 use Rattle.proto_safety.proofs.StoreBooks.{SentBooks}
 use Rattle.proto_safety.proofs.BooksStep.{step_sent}
 use Rattle.proto_safety.proofs.SwitchSends.{IsRequest, FromSwitch}
-use Rattle.proto_safety.proofs.WorldOrigins.{NodeOrigins, FrameOrigin}
+use Rattle.proto_safety.proofs.WorldOrigins.{NodeOrigins, FrameOrigin, from_is_switch}
 use Rattle.proto_safety.proofs.Ground.{Ground, ground_kept, known_of}
 use Rattle.proto_safety.proofs.WorldPutsKept.{PutsOf, puts_kept, told_grant, fed_grant}
 use Rattle.proto_safety.proofs.Clocks.{AgedIn, aged_kept, aged_now, replica_clocks, one_switch, one_replica}
@@ -45,6 +45,7 @@ use Rattle.proto_safety.proofs.WorldFirsts.{WasSent, by_ask, by_put, Before, Fir
 use Rattle.proto_safety.proofs.Acts.{Fits}
 use Rattle.proto_safety.proofs.FirstsInduction.{KeepsFirsts}
 use Rattle.proto_safety.proofs.Induction.{Keeps, keeps_both, with_fed}
+use Rattle.proto_safety.proofs.FramesGrow.{length_advanced_switches}
 
 -- ---- clocks by number
 
@@ -195,14 +196,9 @@ advanced_firsts app w fs by fits h =
       no_snaps = h.no_snaps;
       aged = λ f r node b i at j is.
           let old = advanced_at w.replicas (drop (length w.switches) by) r node at in
-          let e : length (advanced_switches w.switches by) ≡ length w.switches = length_advanced w.switches by in
+          let e : length (advanced_switches w.switches by) ≡ length w.switches = length_advanced_switches w.switches by in
           rw e ((aged_kept app f.switch f.moment (length w.switches + r) b.moment).advances w by fits (h.aged f r old.0 b i old.1.0 (subst (λ (x : ReplicaNode). In x.book b) old.1.1 j) is));
     }
-  where
-    length_advanced : (ss : List SwitchNode) (by : List ℕ) → length (advanced_switches ss by) ≡ length ss
-    length_advanced [] by = refl
-    length_advanced (s ∷ ss) [] = refl
-    length_advanced (s ∷ ss) (d ∷ ds) = omega (arith, length_advanced ss ds)
 
 changed_firsts : (w : World) (fs : List First) (n : ℕ) (g : SwitchNode → SwitchNode) → ((x : SwitchNode) → (g x).clock ≡ x.clock) → ((m : ℕ) (x : SwitchNode) → FirstsAt fs m x → FirstsAt fs m (g x)) → FirstsHold fs w → FirstsHold fs (record w { switches = changed_at w.switches n g })
 changed_firsts w fs n g same keeps h =
@@ -250,13 +246,8 @@ pub sources_of : (cells : ℕ) (w : World) → Ground cells w → Sources w
 sources_of cells w g =
     record {
       origin = λ r node b at i. each_at (NodeOrigins w.frames) w.replicas r node g.0.1.1.books at b.entry (to_map (λ (x : Booked). x.entry) node.book b i);
-      sender = λ m inc e k key delta load i is. from_case m.from (subst (λ (b : Body). IsRequest b → FromSwitch m.from) is (each_in (FrameOrigin w.frames) w.frames m g.0.1.1.frames i).from tt);
+      sender = λ m inc e k key delta load i is. (switch_of m.from, from_is_switch m.from (subst (λ (b : Body). IsRequest b → FromSwitch m.from) is (each_in (FrameOrigin w.frames) w.frames m g.0.1.1.frames i).from tt));
     }
-  where
-    from_case : (from : Node) → FromSwitch from → (n : ℕ) × (from ≡ Node.Switch n)
-    from_case (Node.Switch n) h = (n, refl)
-    from_case (Node.Replica n) h = absurd h
-    from_case Node.Master h = absurd h
 
 -- the same facts of a world that differs in its event and its history
 refed : (fs : List First) (w : World) (p : Packet) → FirstsHold fs w → FirstsHold fs (with_fed w p)

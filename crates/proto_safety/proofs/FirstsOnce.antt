@@ -23,8 +23,8 @@ use Rattle.proto_safety.proofs.FirstsInduction.{firsts_kept}
 use Rattle.proto_safety.proofs.FirstsKept.{Settled, settled_kept, firsts_kept_by}
 use Rattle.proto_safety.proofs.HandedKept.{opened_firsts}
 use Rattle.proto_safety.proofs.LegalRun.{opened_laid, laid_stands}
-use Rattle.proto_safety.proofs.SerialOnce.{each_all}
 use Rattle.proto_safety.proofs.WorldFirsts.{FirstsHold, WasSent, by_ask, by_put}
+use Rattle.proto_safety.proofs.Lists.{each_all}
 
 -- ---- once
 

@@ -9,7 +9,7 @@ use Rattle.rp_base.specs.declared.node.Packet.{Packet}
 use Rattle.rp_app.specs.Application.{Application, Delta, written}
 use Rattle.proto_model.specs.Table.{Key}
 use Rattle.proto_model.specs.Feeds.{Each}
-use Rattle.proto_model.specs.Slot.{Slot, Lease, Idle, Asking, Held, Lapsed, lapsed_slot, lapsed_lease, extended}
+use Rattle.proto_model.specs.Slot.{Slot, Lease, Idle, Asking, Held, Lapsed, lapsed_slot, extended}
 use Rattle.proto_model.specs.SwitchState.{Switch, Item, slot_at, lapsed}
 use Rattle.proto_model.specs.SwitchActs.{acked_lease}
 use Rattle.proto_model.specs.World.{World, Setup, SwitchNode, opened}
@@ -20,6 +20,7 @@ use Rattle.proto_safety.proofs.SwitchTable.{Ready, fed, at_grant, at_grant_again
 use Rattle.proto_safety.proofs.FlowMoves.{View, Move, elsewhere, lapses, asks, asks_again, takes_grant, forgets, direct, mirrored, acked, idles, resends, keeps_lease, snapped, round_done, sends_chunk, begins_round}
 use Rattle.proto_safety.proofs.FlowInduction.{FlowKeeps, Holds, flows_hold, flows_kept}
 use Rattle.proto_safety.proofs.Induction.{Keeps}
+use Rattle.proto_safety.proofs.SlotCells.{lapsed_leased}
 
 pub length-written : (cells : List ℕ) (delta : Delta) → length (written cells delta) ≡ length cells
 length-written cells [] = refl
@@ -38,12 +39,6 @@ counted_at count o slot at h = subst (λ x. CellsCounted count x) at h
 -- a slot with the same cells whose lease is none where the old one's was none
 same_cells : (count : ℕ) (o : Option Slot) (old new : Slot) → o ≡ Some old → length new.cells ≡ length old.cells → (is_leased new.lease ≡ true → is_leased old.lease ≡ true) → CellsCounted count o → SlotCells count new
 same_cells count o old new at cells leased h = record { cells = λ l. cells ∙ (counted_at count o old at h).cells (leased l) }
-
-lapsed_leased : (now : ℕ) (l : Lease) → is_leased (lapsed_lease now l) ≡ true → is_leased l ≡ true
-lapsed_leased now (Held nonce epoch expiry) h = refl
-lapsed_leased now Idle h = h
-lapsed_leased now (Asking nonce first) h = h
-lapsed_leased now (Lapsed nonce epoch expiry) h = h
 
 extended_leased : (t now at : ℕ) (l : Lease) → is_leased (extended t now at l) ≡ true → is_leased l ≡ true
 extended_leased t now at (Lapsed nonce epoch expiry) h = refl

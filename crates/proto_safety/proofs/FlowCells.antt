@@ -23,6 +23,7 @@ use Rattle.proto_safety.proofs.SerialLists.{closing_in, epochs_in, journal_in, c
 use Rattle.proto_safety.proofs.SerialFronts.{front_stays, serial_parts}
 use Rattle.proto_safety.proofs.NumberSplits.{NumbersRise, up_to, below, at_number, past, below_next, split_at_number, up_to_next, number_of_all, up_to-push}
 use Rattle.proto_safety.proofs.FlowSerial.{ran, ran-push, MadeIn, EachMade, PutIs, put_writes, made-push}
+use Rattle.proto_safety.proofs.Lists.{nobody}
 
 -- ---- what is known of the items
 
@@ -41,14 +42,10 @@ pub record CellsOf (app : Application) (fed : List Fed) (es : List Entry) (items
 is_of_key : (key : Key) (e : ℕ) (j : Journaled) → is_in key e j ≡ true → (j.item.key ≡ key) × (j.item.epoch ≡ e)
 is_of_key key e j is = let p = and_parts _ _ is in (same_key-true j.item.key key p.0, eqb-true j.item.epoch e p.1)
 
-pub nobody_in : {A : Type 0} (xs : List A) → ((x : A) → In xs x → ⊥) → xs ≡ []
-nobody_in [] h = refl
-nobody_in (x ∷ xs) h = absurd (h x (inl refl))
-
 -- no items of an epoch that isn't granted
 pub journal_later : (n : ℕ) (es : List Entry) (items : List Journaled) (key : Key) (f : Flow) (e : ℕ) → ItemsKnown n es items key → flow_of n key es ≡ Some f → f.epoch < e → journal_in key items e ≡ []
 journal_later n es items key f e k flow lt =
-    nobody_in (journal_in key items e)
+    nobody (journal_in key items e)
     (λ j i.
     let p = in_filter (is_in key e) items j i in
     let of = is_of_key key e j p.1 in
@@ -58,7 +55,7 @@ journal_later n es items key f e k flow lt =
 
 pub journal_never : (n : ℕ) (es : List Entry) (items : List Journaled) (key : Key) (e : ℕ) → ItemsKnown n es items key → flow_of n key es ≡ None → journal_in key items e ≡ []
 journal_never n es items key e k flow =
-    nobody_in (journal_in key items e)
+    nobody (journal_in key items e)
     (λ j i. let p = in_filter (is_in key e) items j i in let g = k.granted j p.0 (is_of_key key e j p.1).0 in let no : None ≡ Some g.0 = sym flow ∙ g.1.0 in cc)
 
 no_journal_made : (app : Application) (fed : List Fed) (key : Key) (front js : List Journaled) → js ≡ [] → EachMade app fed key front js

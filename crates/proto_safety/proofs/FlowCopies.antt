@@ -1,17 +1,16 @@
 -- In strict mode copies stand in leased slots alone, none has a number above the slot's last, and one has the last where there is any. A slot's nonce was counted.
 use Rattle.std.proofs.Common.{◌≡◌, ◌≢◌, ◌⊎◌, ℕ, ◌+◌, ◌≤◌, List, [], ◌∷◌, ◌++◌, Option, Some, None, arith, refl, sym, ap, subst, ◌∙◌, inl, inr, true, false, Bool}
-use Rattle.std.specs.Prelude.{filter, not, option_map, if◌then◌else◌, nat_le, nat_lt}
+use Rattle.std.specs.Prelude.{filter, not, option_map, nat_le}
 use Rattle.std.proofs.lemmas.Bool.{false≢true, both_ways, leb-true, le-leb, and_from, and_parts, not-true}
 use Rattle.proto_data.specs.declared.terms.Mode.{Mode}
 use Rattle.proto_data.specs.declared.message.Input.{Input}
 use Rattle.proto_data.specs.declared.terms.Terms.{Terms}
 use Rattle.rp_app.specs.Application.{Application}
 use Rattle.proto_model.specs.Table.{Key, same_key}
-use Rattle.proto_model.specs.Slot.{epoch_of, Slot, Lease, Idle, Asking, Held, Lapsed, lapsed_slot, lapsed_lease, extended}
+use Rattle.proto_model.specs.Slot.{epoch_of, Slot, Lease, Idle, Asking, Held, Lapsed, lapsed_slot}
 use Rattle.proto_model.specs.SwitchState.{slot_at, Copy, Item, is_of, is_covered}
-use Rattle.proto_model.specs.SwitchActs.{acked_lease}
 use Rattle.proto_safety.specs.Books.{In}
-use Rattle.proto_safety.proofs.Copies.{is_leased}
+use Rattle.proto_safety.proofs.Copies.{is_leased, still_leased, acked_leased}
 use Rattle.proto_safety.proofs.FlowMoves.{View, Move, elsewhere, lapses, asks, asks_again, takes_grant, forgets, direct, mirrored, acked, idles, resends, keeps_lease, snapped, round_done, sends_chunk, begins_round, SameCopies}
 use Rattle.proto_safety.proofs.FlowAlarm.{in_filter, to_filter, in_append, to_append}
 use Rattle.proto_safety.proofs.FlowInduction.{FlowKeeps, Holds, flows_hold}
@@ -20,7 +19,7 @@ use Rattle.proto_model.specs.Feeds.{Each}
 use Rattle.proto_model.specs.World.{Setup, SwitchNode, opened}
 use Rattle.proto_model.specs.WorldStep.{world_after}
 use Rattle.proto_safety.specs.CellLaws.{CopiesHaveLast, CopiesHaveLastAt}
-use Rattle.proto_safety.proofs.Lists.{each_weaker}
+use Rattle.proto_safety.proofs.Lists.{each_weaker, nobody}
 use Rattle.proto_safety.proofs.Tables.{same_key-refl}
 
 -- a copy with the slot's last number
@@ -41,10 +40,6 @@ CopiesOf (Some slot) cs = CopiesAt slot cs
 -- no copies
 no_copies : (slot : Slot) → CopiesAt slot []
 no_copies slot = record { within = λ c i. absurd i; last = inl refl }
-
-pub nobody : {A : Type 0} (xs : List A) → ((x : A) → In xs x → ⊥) → xs ≡ []
-nobody [] h = refl
-nobody (x ∷ xs) h = absurd (h x (inl refl))
 
 -- a slot with the same last number that is leased where the old one was
 kept_slot : (old new : Slot) (cs : List Copy) → new.last ≡ old.last → (is_leased old.lease ≡ true → is_leased new.lease ≡ true) → CopiesAt old cs → CopiesAt new cs
@@ -108,33 +103,9 @@ sent_again slot old new same h =
 
 -- ---- leases
 
-lapsed_leased : (now : ℕ) (l : Lease) → is_leased l ≡ true → is_leased (lapsed_lease now l) ≡ true
-lapsed_leased now (Held nonce epoch expiry) h = held_case (nat_le expiry now)
-  where
-    held_case : (b : Bool) → is_leased (if b then Lapsed nonce epoch expiry else Held nonce epoch expiry) ≡ true
-    held_case true = refl
-    held_case false = refl
-lapsed_leased now Idle h = h
-lapsed_leased now (Asking nonce first) h = h
-lapsed_leased now (Lapsed nonce epoch expiry) h = refl
-
-extended_leased : (t now at : ℕ) (l : Lease) → is_leased l ≡ true → is_leased (extended t now at l) ≡ true
-extended_leased t now at (Lapsed nonce epoch expiry) h = renew_case (nat_lt now (at + t))
-  where
-    renew_case : (b : Bool) → is_leased (if b then Held nonce epoch (at + t) else Lapsed nonce epoch expiry) ≡ true
-    renew_case true = refl
-    renew_case false = refl
-extended_leased t now at Idle h = h
-extended_leased t now at (Asking nonce first) h = h
-extended_leased t now at (Held nonce epoch expiry) h = refl
-
-acked_leased : (t now : ℕ) (l : Lease) (o : Option (ℕ × ℕ)) → is_leased l ≡ true → is_leased (acked_lease t now l o) ≡ true
-acked_leased t now l None h = h
-acked_leased t now l (Some best) h = extended_leased t now best.1 l h
-
 lapsed_copies : (now : ℕ) (o : Option Slot) (cs : List Copy) → CopiesOf o cs → CopiesOf (option_map (lapsed_slot now) o) cs
 lapsed_copies now None cs h = h
-lapsed_copies now (Some slot) cs h = kept_slot slot (lapsed_slot now slot) cs refl (lapsed_leased now slot.lease) h
+lapsed_copies now (Some slot) cs h = kept_slot slot (lapsed_slot now slot) cs refl (still_leased now slot.lease) h
 
 -- ---- moves
 
@@ -142,8 +113,8 @@ pub record CopiesStand (terms : Terms) (key : Key) (v : View) : Type 0 where
   pub of : (c : Copy) → In v.copies c → is_of key c ≡ true
   pub stand : terms.mode ≡ Mode.Strict → CopiesOf v.slot v.copies
 
-at_slot : (v : View) (slot : Slot) → v.slot ≡ Some slot → CopiesOf v.slot v.copies → CopiesAt slot v.copies
-at_slot v slot at h = subst (λ o. CopiesOf o v.copies) at h
+pub copies_of_slot : (v : View) (slot : Slot) → v.slot ≡ Some slot → CopiesOf v.slot v.copies → CopiesAt slot v.copies
+copies_of_slot v slot at h = subst (λ o. CopiesOf o v.copies) at h
 
 one_more_of : (key : Key) (cs : List Copy) (c : Copy) → ((d : Copy) → In cs d → is_of key d ≡ true) → is_of key c ≡ true → (d : Copy) → In (cs ++ c ∷ []) d → is_of key d ≡ true
 one_more_of key cs c h is d i = more_case (in_append cs (c ∷ []) d i)
@@ -163,20 +134,20 @@ pub copies_move : (app : Application) (inc : ℕ) (terms : Terms) (now : ℕ) (i
 copies_move app inc terms now input key v u items (elsewhere le) h = record { of = h.of; stand = h.stand }
 copies_move app inc terms now input key v u items lapses h = record { of = h.of; stand = λ m. lapsed_copies now v.slot v.copies (h.stand m) }
 copies_move app inc terms now input key v u items (asks slot came of) h = record { of = λ c i. absurd i; stand = λ m. no_copies _ }
-copies_move app inc terms now input key v u items (asks_again {slot = slot} came of at is young) h = record { of = h.of; stand = λ m. kept_slot slot _ v.copies refl (λ l. l) (at_slot v slot at (h.stand m)) }
+copies_move app inc terms now input key v u items (asks_again {slot = slot} came of at is young) h = record { of = h.of; stand = λ m. kept_slot slot _ v.copies refl (λ l. l) (copies_of_slot v slot at (h.stand m)) }
 copies_move app inc terms now input key v u items (takes_grant {slot = slot} came whole at is young) h =
-    record { of = h.of; stand = λ m. let e : v.copies ≡ [] = unleased slot v.copies (rw is refl) (at_slot v slot at (h.stand m)) in rw e (no_copies _) }
-copies_move app inc terms now input key v u items (forgets {slot = slot} mark at) h = record { of = h.of; stand = λ m. kept_slot slot _ v.copies refl (λ l. l) (at_slot v slot at (h.stand m)) }
-copies_move app inc terms now input key v u items (direct {slot = slot} b at is mode e clean none) h = record { of = h.of; stand = λ m. kept_slot slot _ v.copies refl (λ l. l) (at_slot v slot at (h.stand m)) }
+    record { of = h.of; stand = λ m. let e : v.copies ≡ [] = unleased slot v.copies (rw is refl) (copies_of_slot v slot at (h.stand m)) in rw e (no_copies _) }
+copies_move app inc terms now input key v u items (forgets {slot = slot} mark at) h = record { of = h.of; stand = λ m. kept_slot slot _ v.copies refl (λ l. l) (copies_of_slot v slot at (h.stand m)) }
+copies_move app inc terms now input key v u items (direct {slot = slot} b at is mode e clean none) h = record { of = h.of; stand = λ m. kept_slot slot _ v.copies refl (λ l. l) (copies_of_slot v slot at (h.stand m)) }
 copies_move app inc terms now input key v u items (mirrored {slot = slot} b at is mode e) h =
     record {
       of = one_more_of key v.copies _ h.of (same_key-refl key);
-      stand = λ m. pushed slot _ v.copies _ (at_slot v slot at (h.stand m)) refl refl (rw is refl);
+      stand = λ m. pushed slot _ v.copies _ (copies_of_slot v slot at (h.stand m)) refl refl (rw is refl);
     }
 copies_move app inc terms now input key v u items (acked {upto = upto} {slot = slot} came mode at e) h =
     record {
       of = λ c i. h.of c (in_filter (λ c. not (is_covered key upto c)) v.copies c i).0;
-      stand = λ m. covered_all key upto slot _ v.copies h.of refl (acked_leased terms.t_switch now slot.lease _) (at_slot v slot at (h.stand m));
+      stand = λ m. covered_all key upto slot _ v.copies h.of refl (acked_leased terms.t_switch now slot.lease _) (copies_of_slot v slot at (h.stand m));
     }
 copies_move app inc terms now input key v u items (idles at) h = record { of = λ c i. absurd i; stand = λ m. no_copies _ }
 copies_move app inc terms now input key v u items (resends {cs = cs} same) h =
@@ -188,11 +159,11 @@ copies_move app inc terms now input key v u items (resends {cs = cs} same) h =
 copies_move app inc terms now input key v u items (keeps_lease {slot = slot} mode at is none) h =
     record {
       of = one_more_of key v.copies _ h.of (same_key-refl key);
-      stand = λ m. pushed slot _ v.copies _ (at_slot v slot at (h.stand m)) refl refl (rw is refl);
+      stand = λ m. pushed slot _ v.copies _ (copies_of_slot v slot at (h.stand m)) refl refl (rw is refl);
     }
 copies_move app inc terms now input key v u items (snapped {bound = bound} b at is mode e young) h = record { of = h.of; stand = λ m. absurd (not_strict terms.mode bound m mode) }
 copies_move app inc terms now input key v u items (round_done {bound = bound} came mode at e is n) h = record { of = h.of; stand = λ m. absurd (not_strict terms.mode bound m mode) }
-copies_move app inc terms now input key v u items (sends_chunk {slot = slot} at is r) h = record { of = h.of; stand = λ m. kept_slot slot _ v.copies refl (λ l. l) (at_slot v slot at (h.stand m)) }
+copies_move app inc terms now input key v u items (sends_chunk {slot = slot} at is r) h = record { of = h.of; stand = λ m. kept_slot slot _ v.copies refl (λ l. l) (copies_of_slot v slot at (h.stand m)) }
 copies_move app inc terms now input key v u items (begins_round {bound = bound} at is mode r) h = record { of = h.of; stand = λ m. absurd (not_strict terms.mode bound m mode) }
 
 pub copies_keep : (app : Application) → FlowKeeps app (λ inc terms key v. CopiesStand terms key v)

@@ -21,9 +21,10 @@ use Rattle.proto_safety.specs.CellLaws.{Reached, Rests, SlotRests}
 use Rattle.proto_safety.proofs.FlowBooks.{in_prefix, granted_in, numbered_grant}
 use Rattle.proto_safety.proofs.FlowMoves.{View, Move, elsewhere, lapses, asks, asks_again, takes_grant, forgets, direct, mirrored, acked, idles, resends, keeps_lease, snapped, round_done, sends_chunk, begins_round}
 use Rattle.proto_safety.proofs.FlowAlarm.{to_filter}
-use Rattle.proto_safety.proofs.FlowCopies.{LastCopied, CopiesAt, CopiesOf, CopiesStand, copies_move, nobody, not_strict}
+use Rattle.proto_safety.proofs.FlowCopies.{LastCopied, CopiesAt, CopiesStand, copies_move, not_strict, copies_of_slot}
 use Rattle.proto_safety.proofs.Tables.{same_key-refl}
 use Rattle.proto_safety.proofs.SwitchTable.{msg}
+use Rattle.proto_safety.proofs.Lists.{nobody}
 
 pub record FlowRests (es : List Entry) (n inc : ℕ) (terms : Terms) (key : Key) (v : View) : Type 0 where
   pub copies : CopiesStand terms key v
@@ -145,9 +146,6 @@ acked_told cells es n inc epoch upto from to key load input came told =
 
 slot_of : (es : List Entry) (n inc : ℕ) (key : Key) (v : View) (slot : Slot) → v.slot ≡ Some slot → SlotRests es n inc key v.slot v.copies → Rests es n inc key slot.lease slot.last v.copies
 slot_of es n inc key v slot at h = subst (λ o. SlotRests es n inc key o v.copies) at h
-
-copies_of_slot : (v : View) (slot : Slot) → v.slot ≡ Some slot → CopiesOf v.slot v.copies → CopiesAt slot v.copies
-copies_of_slot v slot at h = subst (λ o. CopiesOf o v.copies) at h
 
 rests_move : (app : Application) (es : List Entry) (n inc : ℕ) (terms : Terms) (now : ℕ) (input : Input) (key : Key) (v u : View) (items : List Item) → Told app.cell_count es n input → terms.mode ≡ Mode.Strict → CopiesStand terms key v →
     Move app inc terms now input key v items u → SlotRests es n inc key v.slot v.copies → SlotRests es n inc key u.slot u.copies

@@ -19,7 +19,7 @@ use Rattle.proto_safety.specs.Books.{In, IsPrefix, committed_of}
 use Rattle.proto_safety.specs.Flows.{AckedIn}
 use Rattle.proto_safety.specs.LeaseLaws.{First, AskOf, LeaseGrounded}
 use Rattle.proto_safety.specs.Firsts.{with_sent}
-use Rattle.proto_safety.proofs.Places.{at_set}
+use Rattle.proto_safety.proofs.Places.{at_set, get-set_same}
 use Rattle.proto_safety.proofs.SwitchNodes.{AllAt, all_changed, all_advanced}
 use Rattle.proto_safety.proofs.FlowInduction.{step_same}
 use Rattle.proto_safety.proofs.FlowReplies.{acked_told}
@@ -29,7 +29,6 @@ use Rattle.proto_safety.proofs.WorldBooks.{known_input, advanced_committed, stop
 use Rattle.proto_safety.proofs.WorldFlows.{told_input}
 use Rattle.proto_safety.proofs.FirstSendings.{sending, sent_keeps}
 use Rattle.proto_safety.proofs.PutsKept.{SlotWas}
-use Rattle.proto_safety.proofs.WorldPuts.{set_at}
 use Rattle.proto_safety.proofs.SwitchSince.{step_since}
 use Rattle.proto_safety.proofs.CopyNumbers.{AllPositive, positive_kept, positive_at}
 use Rattle.proto_safety.proofs.Ground.{known_of}
@@ -74,7 +73,7 @@ module _ (app : Application) (w : World) (fs : List First) (n : ℕ) (node : Swi
   own : (key : Key) (slot : Slot) → slot_at moved.state key ≡ Some slot → LeaseGrounded gs x n moved.state.inc key slot.lease
   own key slot found =
       let inc = (step_same app node.state node.clock input).inc in
-      let here : slice_get x.switches n ≡ Some moved = subst (λ l. slice_get l n ≡ Some moved) (sym switches) (set_at w.switches n node moved at) in
+      let here : slice_get x.switches n ≡ Some moved = subst (λ l. slice_get l n ≡ Some moved) (sym switches) (get-set_same w.switches n node moved at) in
       subst (λ (i : ℕ). LeaseGrounded gs x n i key slot.lease) (sym inc)
       (lease_now app fs gs w x n node input terms (g.0.0.1.1.switches n node at) grows (λ y i. sent_keeps n node.clock fs (switch_step app node.state node.clock input).1.sent y i) (f.nodes n node at) (known_of app.cell_count w g.0.0).committed_fits (λ c i. positive_at app w n node c g.1 at i) told acked
       (λ k s is. h n node k s at is) key slot.lease

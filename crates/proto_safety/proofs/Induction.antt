@@ -73,6 +73,11 @@ keeps_both app I J k g =
 pub keeps_all : (app : Application) (I J : World → Type 0) → Keeps app I → Keeps app J → Keeps app (λ w. I w × J w)
 keeps_all app I J k l = keeps_both app I J k (keeps_anyway app I J l)
 
+pub running_after : (w : World) (i : ℕ) (to : Node) → runs_now w to ≡ true → runs_now (frame_passed w i) to ≡ true
+running_after w i (Node.Switch n) up = up
+running_after w i (Node.Replica n) up = up
+running_after w i Node.Master up = up
+
 module _ (app : Application) (I : World → Type 0) (k : Keeps app I) where
   switch_kept : (w : World) (n : ℕ) (input : Input) (o : Option SwitchNode) → slice_get w.switches n ≡ o → runs_at_switch o ≡ true →
       Comes w (Node.Switch n) input → I w → I (switch_takes app w n input o).0
@@ -93,11 +98,6 @@ module _ (app : Application) (I : World → Type 0) (k : Keeps app I) where
       I w → I (switch_takes app (with_fed w p) n (Input.Packet p) o).0
   fed_kept w n p None at up mark h = absurd (false≢true up)
   fed_kept w n p (Some node) at up mark h = k.feeds w n node p at up mark h
-
-  running_after : (w : World) (i : ℕ) (to : Node) → runs_now w to ≡ true → runs_now (frame_passed w i) to ≡ true
-  running_after w i (Node.Switch n) up = up
-  running_after w i (Node.Replica n) up = up
-  running_after w i Node.Master up = up
 
   act_kept : (w : World) (act : Act) → Fits (next_event w) act → I w → I (perform_act app (next_event w) act).0
   act_kept w (Refuses cause) fits h = k.counts w h

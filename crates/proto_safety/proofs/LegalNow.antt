@@ -28,12 +28,10 @@ use Rattle.proto_safety.proofs.TableKeys.{KeysDiffer, differ_put, member_found}
 use Rattle.proto_safety.proofs.Tables.{same_key-refl, same_key-true}
 use Rattle.proto_safety.proofs.WorldOrder.{Placed, Ordered, unkeyed, placed, OrderIn}
 use Rattle.proto_safety.proofs.WorldShown.{ShownIn}
+use Rattle.proto_safety.proofs.Lists.{each_all}
+use Rattle.proto_safety.proofs.BookEpochs.{in_middle}
 
 -- ---- lists
-
-each_all : {A : Type 0} (P : A → Type 0) (xs : List A) → ((x : A) → In xs x → P x) → Each P xs
-each_all P [] h = tt
-each_all P (x ∷ xs) h = (h x (inl refl), each_all P xs (λ y i. h y (inr i)))
 
 pairwise_in : {A : Type 0} (R : A → A → Type 0) (xs : List A) → ((a b : A) → In xs a → In xs b → R a b) → Pairwise R xs
 pairwise_in R [] h = tt
@@ -68,10 +66,6 @@ in_mapped f [] y i = absurd i
 in_mapped f (x ∷ xs) y (inl e) = (x, (inl refl, sym e))
 in_mapped f (x ∷ xs) y (inr i) = let r = in_mapped f xs y i in (r.0, (inr r.1.0, r.1.1))
 
-here_in : {A : Type 0} (pre post : List A) (j : A) → In (pre ++ j ∷ post) j
-here_in [] post j = inl refl
-here_in (x ∷ xs) post j = inr (here_in xs post j)
-
 -- what stands before an item's place, of the items with its mark
 before_place : (xs pre post : List Journaled) (i : Journaled) → Pairwise OtherItem xs → xs ≡ pre ++ i ∷ post → Pairwise (λ (a b : Journaled). i.item.mark ≡ b.item.mark → In pre a) xs
 before_place [] pre post i once is = tt
@@ -99,7 +93,7 @@ before_marks (x ∷ pre) post j m is once =
     while_on (λ n. not (n == m)) x.item.mark (map (λ (x : Journaled). x.item.mark) (pre ++ j ∷ post)) (ap not (not_same (x.item.mark == m) refl)) ∙ ap (λ l. x.item.mark ∷ l) (before_marks pre post j m is once.1)
   where
     not_same : (b : Bool) → (x.item.mark == m) ≡ b → b ≡ false
-    not_same true e = absurd (each_in (OtherItem x) (pre ++ j ∷ post) j once.0 (here_in pre post j) (eqb-true x.item.mark m e ∙ sym is))
+    not_same true e = absurd (each_in (OtherItem x) (pre ++ j ∷ post) j once.0 (in_middle pre post j) (eqb-true x.item.mark m e ∙ sym is))
     not_same false e = refl
 
 -- what fed_at finds

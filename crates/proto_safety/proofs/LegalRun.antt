@@ -39,11 +39,12 @@ use Rattle.proto_safety.proofs.WorldOrigins.{origins_hold}
 use Rattle.proto_safety.proofs.WorldSays.{all_say}
 use Rattle.proto_safety.proofs.WorldNonces.{all_nonces}
 use Rattle.proto_safety.proofs.Ground.{Ground}
-use Rattle.proto_safety.proofs.WorldPutsKept.{PutsOf}
+use Rattle.proto_safety.proofs.WorldPutsKept.{opened_puts}
 use Rattle.proto_data.specs.declared.terms.Mode.{Mode}
 use Rattle.proto_safety.proofs.WorldOrder.{OrderIn, order_kept}
 use Rattle.proto_safety.proofs.WorldOutputs.{OutputsRide, outputs_kept}
 use Rattle.proto_safety.proofs.WorldShown.{ShownFacts, ShownIn, shown_kept}
+use Rattle.proto_safety.proofs.HandedStep.{none_before}
 
 -- what is kept of the first sendings is kept of some of them
 pub some_firsts : (app : Application) (I : World → Type 0) (J : List First → World → Type 0) → KeepsFirsts app I J → KeepsGiven app I (λ w. (fs : List First) × J fs w)
@@ -104,10 +105,6 @@ opened_book : (cells : ℕ) (setup : Setup) (ns : List ℕ) → last_running_boo
 opened_book cells setup [] = refl
 opened_book cells setup (n ∷ ns) = opened_book cells setup ns
 
-none_before : {A : Type 0} (pre post : List A) (x : A) → [] ≡ pre ++ x ∷ post → ⊥
-none_before [] post x is = cc
-none_before (y ∷ ys) post x is = cc
-
 no_cells : (app : Application) (key : Key) (es : List Entry) → es ≡ [] → CellsOf app [] es [] key
 no_cells app key es is =
     record {
@@ -128,16 +125,6 @@ opened_shown app setup = record { at = λ r i. absurd i }
 
 pub opened_order : (app : Application) (setup : Setup) → OrderIn app (opened app.cell_count setup)
 opened_order app setup = record { within = tt; at = λ r i. absurd i }
-
-opened_puts : (cells : ℕ) (setup : Setup) → PutsOf (opened cells setup)
-opened_puts cells setup =
-    record {
-      granted = λ n inc e k key p. absurd p.there;
-      numbers = λ n inc e k key p. absurd p.there;
-      item_granted = λ j i. absurd i;
-      item_numbers = λ j i. absurd i;
-      in_turn = tt;
-    }
 
 pub opened_laid : (app : Application) (setup : Setup) → setup.terms.mode ≡ Mode.Strict → Laid app (opened app.cell_count setup)
 opened_laid app setup strict =

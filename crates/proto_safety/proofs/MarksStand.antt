@@ -1,5 +1,5 @@
 -- What is promised of marks, from how often they stand in the rings.
-use Rattle.std.proofs.Common.{◌≡◌, ◌≢◌, ◌⊎◌, inl, inr, ℕ, ◌+◌, ◌≤◌, List, [], ◌∷◌, ◌++◌, Option, Some, None, refl, ap, sym, arith, eq-eqb}
+use Rattle.std.proofs.Common.{◌≡◌, ◌≢◌, ◌⊎◌, inl, inr, ℕ, ◌+◌, ◌≤◌, List, [], ◌∷◌, ◌++◌, Option, Some, None, refl, sym, arith}
 use Rattle.std.specs.Prelude.{◌==◌, flat_map}
 use Rattle.rp_base.specs.declared.event.Event.{Event}
 use Rattle.rp_app.specs.Application.{Application, IsApplication}
@@ -12,7 +12,7 @@ use Rattle.proto_model.specs.WorldStep.{world_after}
 use Rattle.proto_safety.specs.Books.{In}
 use Rattle.proto_safety.specs.CellLaws.{MarksStand, ring_marks, slot_marks, table_marks, all_ring_marks, asked_marks, journal_marks, released_marks}
 use Rattle.proto_safety.proofs.RingMarks.{one, count_in, total}
-use Rattle.proto_safety.proofs.SwitchMarks.{asked_in, rings_in}
+use Rattle.proto_safety.proofs.SwitchMarks.{asked_in, rings_in, own_mark}
 use Rattle.proto_safety.proofs.WorldMarks.{HasFed, MarksOf, asked_all, rings_all, marks_hold}
 
 -- how often a mark stands in a list
@@ -24,12 +24,9 @@ counts_add : (m : ℕ) (xs ys : List ℕ) → count m (xs ++ ys) ≡ count m xs 
 counts_add m [] ys = omega arith
 counts_add m (x ∷ xs) ys = omega (arith, counts_add m xs ys)
 
-counted_here : (m : ℕ) → one (m == m) ≡ 1
-counted_here m = ap one (eq-eqb m m refl)
-
 is_counted : (m : ℕ) (xs : List ℕ) → In xs m → 1 ≤ count m xs
 is_counted m [] i = absurd i
-is_counted m (x ∷ xs) (inl e) = rw e (omega (arith, counted_here m))
+is_counted m (x ∷ xs) (inl e) = rw e (omega (arith, own_mark m))
 is_counted m (x ∷ xs) (inr i) = omega (arith, is_counted m xs i)
 
 all_differ : (x : ℕ) (ys : List ℕ) → count x ys ≡ 0 → Each (λ y. x ≢ y) ys
@@ -40,7 +37,7 @@ all_differ x (y ∷ ys) none = (λ e. absurd (omega (arith, none, is_counted x (
 differ_by_counts : (xs : List ℕ) → ((m : ℕ) → count m xs ≤ 1) → Pairwise (λ a b. a ≢ b) xs
 differ_by_counts [] most = tt
 differ_by_counts (x ∷ xs) most =
-    (all_differ x xs (omega (arith, most x, counted_here x)), differ_by_counts xs (λ m. omega (arith, most m)))
+    (all_differ x xs (omega (arith, most x, own_mark x)), differ_by_counts xs (λ m. omega (arith, most m)))
 
 ring_counts : (m : ℕ) (ring : Ring) → count m (ring_marks ring) ≡ count_in m ring
 ring_counts m [] = refl

@@ -23,6 +23,7 @@ use Rattle.proto_safety.proofs.ClockSums.{take_one_more, take_all_there, after_o
 use Rattle.proto_safety.proofs.Induction.{Keeps, event_kept}
 use Rattle.proto_safety.proofs.Places.{get-set_same, prefix_same, prefix_push, prefix_trans}
 use Rattle.proto_safety.proofs.WorldFirsts.{set_other}
+use Rattle.proto_safety.proofs.EventCounts.{event_counts}
 
 -- ---- one event
 
@@ -110,36 +111,6 @@ onward r i j le =
 
 -- ---- the number of an event
 
-same_event : (app : Application) (w : World) (n : ℕ) (input : Input) (o : Option SwitchNode) → (switch_takes app w n input o).0.event ≡ w.event
-same_event app w n input None = refl
-same_event app w n input (Some node) = refl
-
-stored_event : (w : World) (n : ℕ) (input : Input) (o : Option ReplicaNode) → (replica_takes w n input o).0.event ≡ w.event
-stored_event w n input None = refl
-stored_event w n input (Some node) = refl
-
-taken_event : (app : Application) (w : World) (to : Node) (input : Input) → (node_takes app w to input).0.event ≡ w.event
-taken_event app w (Node.Switch n) input = same_event app w n input (slice_get w.switches n)
-taken_event app w (Node.Replica n) input = stored_event w n input (slice_get w.replicas n)
-taken_event app w Node.Master input = refl
-
-act_event : (app : Application) (w : World) (act : Act) → (perform_act app w act).0.event ≡ w.event
-act_event app w (Refuses cause) = refl
-act_event app w (Feeds n p) = taken_event app (packet_fed w p) (Node.Switch n) (Input.Packet p)
-act_event app w (Delivers i m) = taken_event app (frame_passed w i) m.to (Input.Msg m)
-act_event app w (Passes i) = refl
-act_event app w (Advances by) = refl
-act_event app w (Alarms node) = taken_event app w node Input.Alarm
-act_event app w (Stops (Node.Switch n)) = refl
-act_event app w (Stops (Node.Replica n)) = refl
-act_event app w (Stops Node.Master) = refl
-act_event app w (Boots n) = refl
-act_event app w (Detects (Node.Switch n)) = refl
-act_event app w (Detects (Node.Replica n)) = refl
-act_event app w (Detects Node.Master) = refl
-act_event app w Announces = refl
-act_event app w Pumps = refl
-
 there_before : {A : Type 0} (xs : List A) (i : ℕ) (x : A) → slice_get xs (suc i) ≡ Some x → (y : A) × (slice_get xs i ≡ Some y)
 there_before [] i x at = cc
 there_before (y ∷ ys) zero x at = (y, refl)
@@ -151,7 +122,7 @@ event_number r zero e at = refl
 event_number r (suc i) e at =
     let p = there_before r.events i e at in
     let next : i + 1 ≡ suc i = omega arith in
-    let step : (before r (i + 1)).event ≡ (before r i).event + 1 = ap (λ (w : World). w.event) (one_later r i p.0 p.1) ∙ act_event r.app (next_event (before r i)) (act_of r.app (next_event (before r i)) p.0) in
+    let step : (before r (i + 1)).event ≡ (before r i).event + 1 = ap (λ (w : World). w.event) (one_later r i p.0 p.1) ∙ event_counts r.app (before r i) p.0 in
     let rest : (before r i).event ≡ i = event_number r i p.0 p.1 in
     let same : (before r (suc i)).event ≡ (before r (i + 1)).event = ap (λ k. (before r k).event) (sym next) in omega (arith, same, step, rest)
 

@@ -18,7 +18,8 @@ use Rattle.proto_safety.proofs.BookEpochs.{Stepped, other, first, next, put, sna
 use Rattle.proto_safety.proofs.Chains.{each_in}
 use Rattle.proto_safety.proofs.Lists.{each_append, each_weaker}
 use Rattle.proto_safety.proofs.FlowAlarm.{in_filter}
-use Rattle.proto_safety.proofs.SerialLists.{closing_in, epochs_in, journal_in, closed_in, serial_in, front_in, flat_map_same, filter_all, filter_no, closes, no_number, no_grant, greater-None}
+use Rattle.proto_safety.proofs.SerialLists.{closing_in, epochs_in, journal_in, closed_in, serial_in, front_in, flat_map_same, filter_all, filter_no, closes, no_number, no_grant}
+use Rattle.proto_safety.proofs.EpochNumbers.{greater-None}
 
 -- ---- a closing stands where no entry of its epoch comes
 

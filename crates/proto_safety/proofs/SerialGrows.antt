@@ -1,6 +1,6 @@
 -- The serial list grows at its end: with an entry, and with an item.
 use Rattle.std.proofs.Common.{◌≡◌, ℕ, zero, suc, ◌+◌, ◌<◌, List, [], ◌∷◌, ◌++◌, Option, Some, None, arith, refl, sym, ◌∙◌, ap, subst, append-nil, append_assoc, filter}
-use Rattle.std.specs.Prelude.{◌-◌, flat_map, fold, max}
+use Rattle.std.specs.Prelude.{◌-◌, flat_map, fold}
 use Rattle.std.proofs.lemmas.List.Concat.{flat_map-cons}
 use Rattle.std.proofs.lemmas.List.Elements.{filter_map-append}
 use Rattle.std.proofs.lemmas.Grind.{fold-append, flat_map-append}
@@ -15,7 +15,7 @@ use Rattle.proto_safety.proofs.BookEpochs.{fits_parts}
 use Rattle.proto_safety.proofs.FlowCells.{ItemsKnown}
 use Rattle.proto_safety.proofs.Places.{prefix_same, prefix_push, prefix_trans}
 use Rattle.proto_safety.proofs.SerialLists.{closing_in, epochs_in, journal_in, closed_in, serial_in, flat_map_same, closes}
-use Rattle.proto_safety.proofs.EpochNumbers.{Reaches}
+use Rattle.proto_safety.proofs.EpochNumbers.{Reaches, greater_left}
 use Rattle.proto_safety.proofs.Chains.{each_in}
 use Rattle.proto_safety.proofs.SerialFronts.{earlier_closing, serial_none}
 use Rattle.proto_safety.proofs.NumberSplits.{NumbersRise, up_to, at_number, up_to_next}
@@ -33,14 +33,9 @@ prefix_behind xs ys zs p = record { rest = p.rest; is = append_assoc xs ys p.res
 
 -- ---- closings only rise
 
-greater_reach : (c o : Option ℕ) (m : ℕ) → Reaches c m → Reaches (greater c o) m
-greater_reach None o m h = let no : None ≡ Some h.0 = h.1.0 in cc
-greater_reach (Some a) None m h = h
-greater_reach (Some a) (Some b) m h = let same : a ≡ h.0 = cc h.1.0 in (max a b, (refl, omega (arith, h.1.1)))
-
 closing_reach : (key : Key) (e m : ℕ) (c : Option ℕ) (more : List Entry) → Reaches c m → Reaches (fold (λ o x. greater o (number_in key e x)) c more) m
 closing_reach key e m c [] h = h
-closing_reach key e m c (x ∷ xs) h = closing_reach key e m (greater c (number_in key e x)) xs (greater_reach c (number_in key e x) m h)
+closing_reach key e m c (x ∷ xs) h = closing_reach key e m (greater c (number_in key e x)) xs (greater_left c (number_in key e x) m h)
 
 -- ---- a book goes on
 

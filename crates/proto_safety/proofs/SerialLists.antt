@@ -15,8 +15,8 @@ use Rattle.proto_safety.specs.Books.{In}
 use Rattle.proto_safety.specs.Flows.{Flow, FitsFrom, flow_step, flow_from, flow_of}
 use Rattle.proto_safety.specs.LeaseLaws.{HasEpoch}
 use Rattle.proto_safety.proofs.Tables.{same_key-refl}
-use Rattle.proto_safety.proofs.BookEpochs.{Stepped, other, first, next, put, snap, stepped}
-use Rattle.proto_safety.proofs.EpochNumbers.{number_epoch}
+use Rattle.proto_safety.proofs.BookEpochs.{Stepped, other, first, next, put, snap, stepped, key_of_epoch}
+use Rattle.proto_safety.proofs.EpochNumbers.{number_epoch, greater-None}
 use Rattle.proto_safety.proofs.Lists.{each_append}
 
 -- ---- over entries and items alone
@@ -63,10 +63,6 @@ filter_like {A = A} p q (x ∷ xs) h = rw (h x (inl refl)) (ap (λ l. if q x the
 closing-push : (key : Key) (e : ℕ) (es : List Entry) (x : Entry) → closing_in key e (es ++ x ∷ []) ≡ greater (closing_in key e es) (number_in key e x)
 closing-push key e es x = fold-append (λ c y. greater c (number_in key e y)) None es (x ∷ [])
 
-pub greater-None : (c : Option ℕ) → greater c None ≡ c
-greater-None None = refl
-greater-None (Some n) = refl
-
 -- an entry of another flow or epoch has no number there
 pub no_number : (key : Key) (e : ℕ) (x : Entry) → (HasEpoch key e x → ⊥) → number_in key e x ≡ None
 no_number key e x h = number_case (number_in key e x) refl
@@ -74,11 +70,6 @@ no_number key e x h = number_case (number_in key e x) refl
     number_case : (o : Option ℕ) → number_in key e x ≡ o → o ≡ None
     number_case None is = refl
     number_case (Some m) is = absurd (h (number_epoch key e m x is))
-
-has_key : (key : Key) (e : ℕ) (x : Entry) → HasEpoch key e x → same_key (entry_key x) key ≡ true
-has_key key e (Entry.Grant k y switch inc nonce) h = rw h.0 (same_key-refl key)
-has_key key e (Entry.Put k y number delta) h = rw h.0 (same_key-refl key)
-has_key key e (Entry.Snap k y round values) h = rw h.0 (same_key-refl key)
 
 pub no_grant : (key : Key) (x : Entry) → same_key (entry_key x) key ≡ false → epoch_granted key x ≡ None
 no_grant key (Entry.Grant k y switch inc nonce) h = rw h refl
@@ -110,7 +101,7 @@ other_grant_number key e d switch inc nonce lt = no_number key d (Entry.Grant ke
 
 closed_push : {n : ℕ} {key : Key} {o u : Option Flow} {x : Entry} (es : List Entry) → Stepped n key o x u → ClosedAt key es o → ClosedAt key (es ++ x ∷ []) u
 closed_push {key = key} {x = x} es (other ne) h =
-    let number : (e : ℕ) → number_in key e x ≡ None = λ e. no_number key e x (λ k. both_ways _ ne (has_key key e x k)) in
+    let number : (e : ℕ) → number_in key e x ≡ None = λ e. no_number key e x (λ k. both_ways _ ne (key_of_epoch key e x k)) in
     record {
       none = λ is. let k = h.none is in (same_epochs key es x (no_grant key x ne) ∙ k.0, λ e. same_closing key e es x (number e) ∙ k.1 e);
       epochs = λ f is. let k = h.epochs f is in (k.0, (same_epochs key es x (no_grant key x ne) ∙ k.1.0, k.1.1));

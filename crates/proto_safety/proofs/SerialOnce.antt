@@ -1,7 +1,7 @@
 -- The serial list of a flow has each item once, and each with the output of one switch after those before it.
-use Rattle.std.proofs.Common.{◌≡◌, ◌≢◌, ◌⊎◌, ℕ, ◌+◌, ◌≤◌, ◌<◌, List, [], ◌∷◌, ◌++◌, Option, Some, None, arith, refl, sym, ◌∙◌, ap, subst, append_assoc, true, false, Bool, inl, inr, filter}
+use Rattle.std.proofs.Common.{◌≡◌, ◌≢◌, ℕ, ◌+◌, ◌≤◌, ◌<◌, List, [], ◌∷◌, ◌++◌, Option, Some, None, arith, refl, sym, ◌∙◌, ap, subst, append_assoc, true, false, Bool, inl, inr, filter}
 use Rattle.std.specs.Prelude.{if◌then◌else◌, nat_lt, flat_map}
-use Rattle.std.proofs.lemmas.Bool.{and_parts, leb-true, le-leb, lt-ltb, ltb-true}
+use Rattle.std.proofs.lemmas.Bool.{and_parts, leb-true, le-leb, lt-ltb}
 use Rattle.std.proofs.Common.{eqb-true}
 use Rattle.std.proofs.lemmas.Grind.{flat_map-append}
 use Rattle.std.proofs.lemmas.List.Concat.{flat_map-cons}
@@ -14,16 +14,17 @@ use Rattle.proto_model.specs.Committed.{epoch_granted, is_in, is_closed}
 use Rattle.proto_model.specs.World.{Fed, Journaled}
 use Rattle.proto_safety.specs.Books.{In}
 use Rattle.proto_safety.specs.Flows.{Flow, FitsFrom, flow_step}
-use Rattle.proto_safety.proofs.BookEpochs.{Stepped, other, first, next, put, snap, stepped, Above}
+use Rattle.proto_safety.proofs.BookEpochs.{Stepped, other, first, next, put, snap, stepped, Above, in_middle}
 use Rattle.proto_safety.proofs.Chains.{each_in}
-use Rattle.proto_safety.proofs.FlowAlarm.{in_filter, in_append}
+use Rattle.proto_safety.proofs.FlowAlarm.{in_filter}
 use Rattle.proto_safety.proofs.FlowCells.{CellsOf}
 use Rattle.proto_safety.proofs.FlowSerial.{MadeIn}
-use Rattle.proto_safety.proofs.Lists.{each_append, each_filter}
-use Rattle.proto_safety.proofs.NumberSplits.{NumbersRise}
+use Rattle.proto_safety.proofs.Lists.{each_append, each_filter, each_all}
+use Rattle.proto_safety.proofs.NumberSplits.{NumbersRise, lt_not}
 use Rattle.proto_safety.proofs.SerialLists.{closing_in, epochs_in, journal_in, closed_in, serial_in, front_in, filter_no, no_grant}
 use Rattle.proto_safety.proofs.SerialFronts.{epochs_above}
 use Rattle.proto_safety.proofs.Tables.{same_key-refl, same_key-true}
+use Rattle.proto_safety.proofs.CellsFed.{in_flat_parts}
 
 -- ---- pairs
 
@@ -35,22 +36,10 @@ pairwise_filter R p (x ∷ xs) h = keep_case (p x) (each_filter (R x) p xs h.0) 
     keep_case true e rest = (e, rest)
     keep_case false e rest = rest
 
-pub each_all : {A : Type 0} (P : A → Type 0) (xs : List A) → ((x : A) → In xs x → P x) → Each P xs
-each_all P [] h = tt
-each_all P (x ∷ xs) h = (h x (inl refl), each_all P xs (λ y i. h y (inr i)))
-
 pub pairwise_append : {A : Type 0} (R : A → A → Type 0) (xs ys : List A) → Pairwise R xs → Pairwise R ys → ((x y : A) → In xs x → In ys y → R x y) → Pairwise R (xs ++ ys)
 pairwise_append R [] ys h k c = k
 pairwise_append R (x ∷ xs) ys h k c =
     (each_append (R x) xs ys h.0 (each_all (R x) ys (λ y i. c x y (inl refl) i)), pairwise_append R xs ys h.1 k (λ a b i j. c a b (inr i) j))
-
-pub in_flat_parts : {A B : Type 0} (f : A → List B) (xs : List A) (y : B) → In (flat_map f xs) y → (x : A) × (In xs x × In (f x) y)
-in_flat_parts f [] y i = absurd i
-in_flat_parts {A = A} f (x ∷ xs) y i = part_case (in_append (f x) (flat_map f xs) y (subst (λ l. In l y) (flat_map-cons f x xs) i)) (in_flat_parts f xs y)
-  where
-    part_case : In (f x) y ⊎ In (flat_map f xs) y → (In (flat_map f xs) y → (z : A) × (In xs z × In (f z) y)) → (z : A) × (In (x ∷ xs) z × In (f z) y)
-    part_case (inl j) rest = (x, (inl refl, j))
-    part_case (inr j) rest = let r = rest j in (r.0, (inr r.1.0, r.1.1))
 
 pub pairwise_flat : {A B : Type 0} (S : A → A → Type 0) (R : B → B → Type 0) (f : A → List B) (xs : List A) → Pairwise S xs → ((x : A) → In xs x → Pairwise R (f x)) → ((x y : A) (a b : B) → S x y → In (f x) a → In (f y) b → R a b) → Pairwise R (flat_map f xs)
 pairwise_flat S R f [] h k c = tt
@@ -131,31 +120,16 @@ pub record PlaceIn (app : Application) (feeds : List Fed) (key : Key) (serial : 
 
 -- the epochs before one of a rising list
 front_epochs : (ds es : List ℕ) (e : ℕ) → Pairwise (λ a b. a < b) (ds ++ e ∷ es) → filter (λ d. nat_lt d e) (ds ++ e ∷ es) ≡ ds
-front_epochs [] es e h = rw (not_lt e e (omega arith)) (filter_no (λ d. nat_lt d e) es (λ d i. not_lt d e (let lt : e < d = each_in (λ b. e < b) es d h.0 i in omega arith)))
-  where
-    not_lt : (a b : ℕ) → b ≤ a → nat_lt a b ≡ false
-    not_lt a b le = lt_case (nat_lt a b) refl
-      where
-        lt_case : (t : Bool) → nat_lt a b ≡ t → t ≡ false
-        lt_case true is = let lt : a < b = ltb-true a b is in absurd (omega arith)
-        lt_case false is = refl
-front_epochs (d ∷ ds) es e h = rw (lt-ltb d e (each_in (λ b. d < b) (ds ++ e ∷ es) e h.0 (in_here ds es e))) (ap (λ l. d ∷ l) (front_epochs ds es e h.1))
-  where
-    in_here : (ds es : List ℕ) (e : ℕ) → In (ds ++ e ∷ es) e
-    in_here [] es e = inl refl
-    in_here (d ∷ ds) es e = inr (in_here ds es e)
+front_epochs [] es e h = rw (lt_not e e (omega arith)) (filter_no (λ d. nat_lt d e) es (λ d i. lt_not d e (let lt : e < d = each_in (λ b. e < b) es d h.0 i in omega arith)))
+front_epochs (d ∷ ds) es e h = rw (lt-ltb d e (each_in (λ b. d < b) (ds ++ e ∷ es) e h.0 (in_middle ds es e))) (ap (λ l. d ∷ l) (front_epochs ds es e h.1))
 
 -- what stands before a closed item in its journal is closed
 closed_front : (o : Option ℕ) (pre post : List Journaled) (j : Journaled) → NumbersRise (pre ++ j ∷ post) → is_closed o j ≡ true → filter (is_closed o) pre ≡ pre
 closed_front o [] post j rise closed = refl
 closed_front o (x ∷ pre) post j rise closed =
-    let le : x.item.number ≤ j.item.number = each_in (λ (y : Journaled). x.item.number ≤ y.item.number) (pre ++ j ∷ post) j rise.0 (in_here pre post j) in
+    let le : x.item.number ≤ j.item.number = each_in (λ (y : Journaled). x.item.number ≤ y.item.number) (pre ++ j ∷ post) j rise.0 (in_middle pre post j) in
     rw (lower_closed o x j le closed) (ap (λ l. x ∷ l) (closed_front o pre post j rise.1 closed))
   where
-    in_here : (pre post : List Journaled) (j : Journaled) → In (pre ++ j ∷ post) j
-    in_here [] post j = inl refl
-    in_here (x ∷ pre) post j = inr (in_here pre post j)
-
     lower_closed : (o : Option ℕ) (x j : Journaled) → x.item.number ≤ j.item.number → is_closed o j ≡ true → is_closed o x ≡ true
     lower_closed None x j le c = c
     lower_closed (Some n) x j le c = le-leb x.item.number n (omega (arith, leb-true j.item.number n c))

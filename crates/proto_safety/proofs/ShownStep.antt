@@ -40,7 +40,7 @@ use Rattle.proto_safety.proofs.SerialLists.{closing_in, epochs_in, closed_in, se
 use Rattle.proto_safety.proofs.SwitchCells.{ready_from}
 use Rattle.proto_safety.proofs.SwitchItems.{own_serial}
 use Rattle.proto_safety.proofs.FlowCells.{other_journal, not_in_key}
-use Rattle.proto_safety.proofs.SwitchTable.{Acts, Ready, msg, direct, mirrored, snapped, acked, late, row_acts}
+use Rattle.proto_safety.proofs.SwitchTable.{Acts, Ready, msg, direct, mirrored, snapped, acked, late, row_acts, late_item}
 use Rattle.proto_safety.proofs.SwitchTable.{keyless as row_keyless}
 use Rattle.proto_safety.proofs.Tables.{same_key-true}
 use Rattle.proto_safety.proofs.WorldOutputs.{output_mark}
@@ -158,11 +158,7 @@ module _ (app : Application) (w : World) (feeds : List Fed) (n : ℕ) (node : Sw
       item_serial i key slot epoch p made r came e (record { event = event; item = item_of key epoch p.mark (slot.last + 1) node.clock made.0; output = made_output None (put ∷ []) }) (slot.last + 1) refl
       (made_put app w feeds n node input facts hold at up brought carried (Node.Switch s.me) (head_node s.config.chain) s.inc epoch (slot.last + 1) key made.0 made.1) (omega arith) x
   row_serial event i row (snapped {bound = bound} r m e young) came x = absurd (not_strict s.terms.mode bound (facts.strict n node at) m)
-  row_serial event i row (late {key = key} {load = load} {slot = slot} here found is_asking old) came x = idle_serial event (Late key slot (asked_mark slot load)) x (late_none (asked_mark slot load))
-    where
-      late_none : (m : Option ℕ) → (late_did m).item ≡ None
-      late_none None = refl
-      late_none (Some m) = refl
+  row_serial event i row (late {key = key} {load = load} {slot = slot} here found is_asking old) came x = idle_serial event (Late key slot (asked_mark slot load)) x (late_item (asked_mark slot load))
   row_serial event i row a came x = idle_serial event row x refl
 
   pub step_serial : (event : ℕ) (x : Key) → IsPrefix (serial_in x es items) (serial_in x es (more event (switch_step app node.state node.clock input).1))

@@ -1,5 +1,5 @@
 -- Sizes in tables, chains and deltas.
-use Rattle.std.proofs.Common.{◌≡◌, ℕ, ◌+◌, ◌≤◌, ◌<◌, List, [], ◌∷◌, length, Some, arith, refl, true, false, Bool, subst, inl, inr}
+use Rattle.std.proofs.Common.{◌≡◌, ℕ, ◌+◌, ◌≤◌, ◌<◌, List, [], ◌∷◌, length, Some, arith, refl, true, false, Bool, subst}
 use Rattle.std.specs.Prelude.{◌==◌, if◌then◌else◌}
 use Rattle.std.specs.List.{All}
 use Rattle.std.proofs.lemmas.Bool.{and_parts, lt-ltb, ltb-true}
@@ -11,13 +11,8 @@ use Rattle.proto_model.specs.Table.{Key, Table, same_key, get, put, map_values}
 use Rattle.proto_model.specs.Slot.{chunk_count}
 use Rattle.proto_model.specs.SwitchState.{head_node}
 use Rattle.proto_model.specs.ReplicaState.{successor_of, predecessor_of, last_of}
-use Rattle.proto_safety.specs.Books.{In}
 use Rattle.proto_safety.specs.Sizes.{DeltaSized}
 use Rattle.proto_safety.proofs.Tables.{same_key-true}
-
-pub each_of : {A : Type 0} (P : A → Type 0) (xs : List A) → ((x : A) → In xs x → P x) → Each P xs
-each_of P [] k = tt
-each_of P (x ∷ xs) k = (k x (inl refl), each_of P xs (λ y i. k y (inr i)))
 
 -- ---- tables
 

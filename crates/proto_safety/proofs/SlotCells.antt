@@ -37,7 +37,7 @@ put_whole n slots key v w h k slot at l = put_case (same_key key k) refl
         ap (λ (s : Slot). length s.cells) (sym same) ∙ w (ap (λ (s : Slot). is_leased s.lease) same ∙ l)
     put_case false ne = h k slot (sym (get-put_other slots k key v ne) ∙ at) l
 
-lapsed_leased : (now : ℕ) (lease : Lease) → is_leased (lapsed_lease now lease) ≡ true → is_leased lease ≡ true
+pub lapsed_leased : (now : ℕ) (lease : Lease) → is_leased (lapsed_lease now lease) ≡ true → is_leased lease ≡ true
 lapsed_leased now Idle h = h
 lapsed_leased now (Asking nonce first) h = h
 lapsed_leased now (Held nonce epoch expiry) h = refl

@@ -1,6 +1,6 @@
 -- A switch's slots and copies stand for the items of their epochs, and do so after each row.
 use Rattle.std.proofs.Common.{◌≡◌, ◌≢◌, ◌⊎◌, ℕ, ◌+◌, ◌≤◌, ◌<◌, List, [], ◌∷◌, ◌++◌, Option, Some, None, arith, refl, sym, ◌∙◌, ap, subst, true, false, Bool, inl, inr, filter, map}
-use Rattle.std.specs.Prelude.{not, if◌then◌else◌, nat_le, nat_lt, option_map, fold, ◌/◌}
+use Rattle.std.specs.Prelude.{not, option_map, fold, ◌/◌}
 use Rattle.std.proofs.lemmas.Bool.{both_ways}
 use Rattle.rp_base.specs.declared.node.Node.{Node}
 use Rattle.rp_base.specs.declared.node.Packet.{Packet}
@@ -13,10 +13,10 @@ use Rattle.rp_base.specs.declared.event.DropCause.{DropCause}
 use Rattle.rp_app.specs.Application.{Application}
 use Rattle.proto_model.specs.Table.{Key, same_key, get, put}
 use Rattle.proto_model.specs.Feeds.{Each}
-use Rattle.proto_model.specs.Slot.{Slot, Lease, Idle, Asking, Held, Lapsed, epoch_of, lapsed_slot, lapsed_lease, extended}
+use Rattle.proto_model.specs.Slot.{Slot, epoch_of, lapsed_slot}
 use Rattle.proto_model.specs.SwitchState.{Switch, Copy, slot_at, lapsed, is_of, is_covered, greatest_first}
 use Rattle.proto_model.specs.SwitchRow.{SwitchRow, Keyless, NoRoom, NewAsk, AskAgain, Drops, Direct, Mirrored, Granted, Late, Acked, RoundDone, Denied, Busied, Adopts, Resends, Stale}
-use Rattle.proto_model.specs.SwitchActs.{perform, acked_lease}
+use Rattle.proto_model.specs.SwitchActs.{perform}
 use Rattle.proto_model.specs.SwitchAlarm.{Walk, alarm, resent, due_copies, other_copies, walk_order}
 use Rattle.proto_model.specs.World.{Fed, Journaled}
 use Rattle.proto_safety.specs.Books.{In}
@@ -29,6 +29,7 @@ use Rattle.proto_safety.proofs.FlowMoves.{ready_held}
 use Rattle.proto_safety.proofs.SerialLists.{journal_in, front_in}
 use Rattle.proto_safety.proofs.FlowSerial.{ran, PutIs}
 use Rattle.proto_safety.proofs.PutGoesOn.{empty_put_is}
+use Rattle.proto_safety.proofs.SlotFirsts.{acked_epoch, lapsed_epoch}
 
 -- the cells of an epoch: those after the committed items of earlier epochs and its own items
 abbrev pub cells_in : Application → List Fed → List Entry → List Journaled → Key → ℕ → List ℕ
@@ -91,30 +92,6 @@ module _ (app : Application) (feeds : List Fed) (es : List Entry) where
       (λ e of.
       let k = h.at key old e at (leased e of) in
       record { cells = cells ∙ k.cells; copies = λ c i c_of. k.copies c (copies c i) c_of; numbers = subst (λ m. Each (λ (i : Journaled). i.item.number ≤ m) (journal_in key items e)) (sym last) k.numbers }) h
-
-  lapsed_epoch : (now : ℕ) (l : Lease) → epoch_of (lapsed_lease now l) ≡ epoch_of l
-  lapsed_epoch now Idle = refl
-  lapsed_epoch now (Asking nonce first) = refl
-  lapsed_epoch now (Held nonce epoch expiry) = lapse_case (nat_le expiry now)
-    where
-      lapse_case : (b : Bool) → epoch_of (if b then Lapsed nonce epoch expiry else Held nonce epoch expiry) ≡ Some epoch
-      lapse_case true = refl
-      lapse_case false = refl
-  lapsed_epoch now (Lapsed nonce epoch expiry) = refl
-
-  extended_epoch : (t now at : ℕ) (l : Lease) → epoch_of (extended t now at l) ≡ epoch_of l
-  extended_epoch t now at Idle = refl
-  extended_epoch t now at (Asking nonce first) = refl
-  extended_epoch t now at (Held nonce epoch expiry) = refl
-  extended_epoch t now at (Lapsed nonce epoch expiry) = renew_case (nat_lt now (at + t))
-    where
-      renew_case : (b : Bool) → epoch_of (if b then Held nonce epoch (at + t) else Lapsed nonce epoch expiry) ≡ Some epoch
-      renew_case true = refl
-      renew_case false = refl
-
-  acked_epoch : (t now : ℕ) (l : Lease) (o : Option (ℕ × ℕ)) → epoch_of (acked_lease t now l o) ≡ epoch_of l
-  acked_epoch t now l None = refl
-  acked_epoch t now l (Some best) = extended_epoch t now best.1 l
 
   -- leases that ended lapse first
   pub lapsed_stands : (items : List Journaled) (s : Switch) (now : ℕ) → SwitchStands app feeds es items s → SwitchStands app feeds es items (lapsed now s)
@@ -287,7 +264,7 @@ module _ (app : Application) (feeds : List Fed) (es : List Entry) (items : List 
   row_from j (Late key slot mark) a came none = unleased app feeds es items s (after (Late key slot mark)) key _ refl (λ c i ne. given_up key c i) refl h
   row_from j (Acked key slot upto load) (acked m i at of) came none =
       kept app feeds es items s (after (Acked key slot upto load)) key slot _ at refl (λ c j. (in_filter (λ c. not (is_covered key upto c)) s.copies c j).0) refl refl
-      (λ e leased. sym (acked_epoch app feeds es s.terms.t_switch now slot.lease (fold greatest_first None (filter (is_covered key upto) s.copies))) ∙ leased) h
+      (λ e leased. sym (acked_epoch s.terms.t_switch now slot.lease (fold greatest_first None (filter (is_covered key upto) s.copies))) ∙ leased) h
   row_from j (RoundDone key slot round) (round_done {bound = bound} m i at of is n) came none = absurd (not_strict s.terms.mode bound r.strict m)
   row_from j (Denied key slot) a came none = unleased app feeds es items s (after (Denied key slot)) key _ refl (λ c i ne. given_up key c i) refl h
   row_from j (Busied key slot mark) (busied i at is m) came none = kept app feeds es items s (after (Busied key slot mark)) key slot _ at refl (λ c j. j) refl refl (λ e leased. leased) h

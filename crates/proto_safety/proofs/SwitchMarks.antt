@@ -17,7 +17,7 @@ use Rattle.proto_model.specs.SwitchRow.{SwitchRow, Keyless, NewAsk, AskAgain, Dr
 use Rattle.proto_model.specs.SwitchActs.{perform, held_output, forget_load, remember_output, late_did}
 use Rattle.proto_model.specs.SwitchRows.{switch_step}
 use Rattle.proto_safety.proofs.RingMarks.{one, count_in, count_remember, count_forget, forgotten, remembered, total, total-put_some, total-put_none, total-map}
-use Rattle.proto_safety.proofs.SwitchTable.{Acts, Ready, fed, at_grant, at_grant_again, keyless, first_ask, ask_idle, ask_anew, ask_lapsed, ask_again, no_copy_room, direct, mirrored, snapped, too_old, granted_only, late, acked, round_done, denied, busied, row_acts}
+use Rattle.proto_safety.proofs.SwitchTable.{Acts, Ready, fed, at_grant, at_grant_again, keyless, first_ask, ask_idle, ask_anew, ask_lapsed, ask_again, no_copy_room, direct, mirrored, snapped, too_old, granted_only, late, acked, round_done, denied, busied, row_acts, late_item}
 use Rattle.proto_safety.proofs.AlarmInduction.{WalkKeeps, walk_kept}
 use Rattle.proto_safety.proofs.SlotCells.{Whole, ready_whole, lapsed_whole}
 
@@ -74,7 +74,7 @@ pub record ReadyMarks (s : Switch) (input : Input) (key : Key) (slot : Slot) (p 
   pub held : slot.held ≡ old.held
   pub own : count_in p.mark slot.asked + 1 ≤ count_in p.mark old.asked + fresh p.mark input
 
-own_mark : (m : ℕ) → one (m == m) ≡ 1
+pub own_mark : (m : ℕ) → one (m == m) ≡ 1
 own_mark m = ap one (eq-eqb m m refl)
 
 pub ready_marks : (app : Application) (s : Switch) (now : ℕ) {input : Input} {key : Key} {slot : Slot} {epoch : ℕ} {p : Packet} → Ready app s now input key slot epoch p → ReadyMarks s input key slot p
@@ -207,10 +207,6 @@ module _ (app : Application) (is_app : IsApplication app) (s : Switch) (now : �
       gone : (o : Output) (load : Option Carried) → held_output slot.held load ≡ Some o → count_in o.mark (forget_load slot.held load) + 1 ≤ count_in o.mark slot.held
       gone o None e = absurd cc
       gone o (Some c) e = held_case o c (remembers slot.held c.mark) refl e
-
-  late_item : (mark : Option ℕ) → (late_did mark).item ≡ None
-  late_item None = refl
-  late_item (Some m) = refl
 
   late_released : (mark : Option ℕ) → (late_did mark).released ≡ None
   late_released None = refl

@@ -18,6 +18,7 @@ use Rattle.proto_model.specs.Ring.{remembers}
 use Rattle.proto_model.specs.Slot.{Slot, Lease, Round, Idle, Asking, Held, Lapsed, is_young, may}
 use Rattle.proto_model.specs.SwitchState.{Switch, slot_at, has_copies}
 use Rattle.proto_model.specs.SwitchRow.{SwitchRow, Granted, Stale, switch_row, packet_row, keyed_row, leased_row, message_row, grant_row, carried_row, busy_row, ack_row, round_row, at_slot, processed, process_row, granted, without_asked, has_epoch, is_clean}
+use Rattle.proto_model.specs.SwitchActs.{late_did}
 
 module _ (app : Application) (s : Switch) (now : ℕ) where
   if_acts : {input : Input} {x y : SwitchRow} (b : Bool) → (b ≡ true → Acts app s now input x) → (b ≡ false → Acts app s now input y) → Acts app s now input (if b then x else y)
@@ -136,3 +137,12 @@ module _ (app : Application) (s : Switch) (now : ℕ) where
   row_acts (Input.Packet p) = packet_acts p (app.key_of p) refl
   row_acts (Input.Msg m) = message_acts m.from m.to m.body
   row_acts Input.Alarm = resends
+
+-- a Grant that came too late leaves no item
+pub late_item : (mark : Option ℕ) → (late_did mark).item ≡ None
+late_item None = refl
+late_item (Some m) = refl
+
+-- a packet is no message
+pub no_message : (p : Packet) (from to : Node) {b : Body} → Input.Packet p ≡ msg from to b → ⊥
+no_message p from to e = cc

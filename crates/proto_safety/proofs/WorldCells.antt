@@ -40,7 +40,7 @@ use Rattle.proto_safety.proofs.SerialLists.{journal_in, front_in}
 use Rattle.proto_safety.proofs.StoreBooks.{SentBooks, Sent}
 use Rattle.proto_safety.proofs.SwitchCells.{SwitchStands}
 use Rattle.proto_safety.proofs.SwitchNodes.{AllAt, all_changed, all_advanced}
-use Rattle.proto_safety.proofs.SwitchTable.{msg}
+use Rattle.proto_safety.proofs.SwitchTable.{msg, no_message}
 use Rattle.proto_safety.proofs.WorldBooks.{known_input, stopped_grows}
 use Rattle.proto_safety.proofs.WorldNonces.{config_msgs}
 use Rattle.proto_safety.proofs.Induction.{Keeps, KeepsGiven, Comes, with_fed}
@@ -100,11 +100,8 @@ module _ (app : Application) (w : World) (f : CellFacts app w) where
       Cells app (switch_moved (with_fed w p) n node (switch_step app node.state node.clock (Input.Packet p)))
   fed_cells_kept n node p at up mark h =
       let l = step_left app w (w.history.fed ++ record { event = w.event + 1; packet = p } ∷ []) n node (Input.Packet p) f (fed_hold p h) at up
-      (found_new w.history.fed (record { event = w.event + 1; packet = p }) w.event mark f.once.within) (λ c key from to inc nonce epoch cells is. absurd (never from to is)) (w.event + 1) in
+      (found_new w.history.fed (record { event = w.event + 1; packet = p }) w.event mark f.once.within) (λ c key from to inc nonce epoch cells is. absurd (no_message p from to is)) (w.event + 1) in
       record { flows = l.flows; slots = l.slots; puts = l.puts }
-    where
-      never : {b : Body} (from to : Node) → Input.Packet p ≡ msg from to b → ⊥
-      never from to e = cc
 
 -- ---- the committed book goes on
 

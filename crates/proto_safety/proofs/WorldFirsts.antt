@@ -28,14 +28,14 @@ use Rattle.proto_safety.proofs.SlotFirsts.{NodeFirsts, Counted, Untouched}
 use Rattle.proto_safety.proofs.SwitchFirsts.{step_firsts}
 use Rattle.proto_safety.proofs.SwitchSays.{step_says}
 use Rattle.proto_safety.proofs.SwitchTable.{msg}
-use Rattle.proto_safety.proofs.Places.{at_set}
+use Rattle.proto_safety.proofs.Places.{at_set, get-set_same}
 use Rattle.proto_safety.proofs.Lists.{each_append, map-set_same}
 use Rattle.std.proofs.lemmas.List.{length-set}
 use Rattle.proto_safety.proofs.Chains.{each_in}
 use Rattle.proto_safety.proofs.FlowAlarm.{in_append, to_append}
 use Rattle.proto_safety.proofs.FlowBooks.{in_front}
 use Rattle.proto_safety.proofs.BookEpochs.{one_grant}
-use Rattle.proto_safety.proofs.WorldPuts.{PutFrame, Known, PutsFit, set_at}
+use Rattle.proto_safety.proofs.WorldPuts.{PutFrame, Known, PutsFit}
 use Rattle.proto_safety.proofs.Clocks.{AgedIn}
 use Rattle.proto_safety.proofs.Tables.{same_some}
 
@@ -143,7 +143,7 @@ module _ (app : Application) (w : World) (fs : List First) (n : ℕ) (node : Swi
     says = step_says app node.state node.clock input (known.tidy n node at)
 
     own : state.me ≡ n
-    own = later.me n moved (set_at w.switches n node moved at)
+    own = later.me n moved (get-set_same w.switches n node moved at)
 
     sent_from : (m : Msg) → In sent m → m.from ≡ Node.Switch n
     sent_from m i = (each_in (SaidNow state) sent m says i).0 ∙ ap (λ (x : ℕ). Node.Switch x) own
@@ -175,14 +175,14 @@ module _ (app : Application) (w : World) (fs : List First) (n : ℕ) (node : Swi
         before_case (inl e) =
             let there : slice_get w.switches k ≡ Some node = subst (λ (x : ℕ). slice_get w.switches x ≡ Some node) (sym e) at in
             let same : b.node ≡ node = same_some (slice_get w.switches k) b.node node b.at there in
-            record { node = moved; at = subst (λ (x : ℕ). slice_get after x ≡ Some moved) (sym e) (set_at w.switches n node moved at); past = subst (λ (x : SwitchNode). moment ≤ x.clock) same b.past }
+            record { node = moved; at = subst (λ (x : ℕ). slice_get after x ≡ Some moved) (sym e) (get-set_same w.switches n node moved at); past = subst (λ (x : SwitchNode). moment ≤ x.clock) same b.past }
         before_case (inr ne) = record { node = b.node; at = set_other w.switches n k moved ne ∙ b.at; past = b.past }
 
     past_now : (f : First) → In fs f ⊎ SentNow n node.clock fs sent f → Before after f.switch f.moment
     past_now f (inl i) = before_after f.switch f.moment (h.past f i)
     past_now f (inr s) =
         subst (λ (x : ℕ). Before after x f.moment) (sym s.switch_is)
-        (subst (λ (x : ℕ). Before after n x) (sym s.moment_is) (record { node = moved; at = set_at w.switches n node moved at; past = omega arith }))
+        (subst (λ (x : ℕ). Before after n x) (sym s.moment_is) (record { node = moved; at = get-set_same w.switches n node moved at; past = omega arith }))
 
     -- ---- frames
 

@@ -176,13 +176,14 @@ more_gathers frames ms node h key g at =
 frames_more : (frames ms : List Msg) (nodes : List ReplicaNode) → Each (GathersFrom frames) nodes → Each (GathersFrom (frames ++ ms)) nodes
 frames_more frames ms nodes h = each_weaker (GathersFrom frames) (GathersFrom (frames ++ ms)) nodes (λ node k. more_gathers frames ms node k) h
 
-frame_in : {A : Type 0} (xs : List A) (i : ℕ) (x : A) → slice_get xs i ≡ Some x → In xs x
-frame_in [] i x at = cc
-frame_in (y ∷ ys) zero x at = inl cc
-frame_in (y ∷ ys) (suc i) x at = inr (frame_in ys i x at)
+-- an element at a place stands in the list
+pub in_frames : {A : Type 0} (xs : List A) (i : ℕ) (x : A) → slice_get xs i ≡ Some x → In xs x
+in_frames [] i x at = cc
+in_frames (y ∷ ys) zero x at = inl cc
+in_frames (y ∷ ys) (suc i) x at = inr (in_frames ys i x at)
 
 input_gathers : (w : World) (n : ℕ) (s : Replica) (now : ℕ) (input : Input) → Comes w (Node.Replica n) input → Gathering w.frames s.cell_count s.gathered → Gathering w.frames s.cell_count (gathered_after s (store_row s now input))
-input_gathers w n s now (Input.Msg m) from h = taken_gathers w.frames m.to (message_taken s now m.from m.body) (frame_in w.frames from.1.0 m from.1.1) h
+input_gathers w n s now (Input.Msg m) from h = taken_gathers w.frames m.to (message_taken s now m.from m.body) (in_frames w.frames from.1.0 m from.1.1) h
 input_gathers w n s now Input.Alarm from h = h
 input_gathers w n s now (Input.Packet p) from h = h
 

@@ -23,7 +23,7 @@ use Rattle.proto_safety.specs.Books.{In, IsPrefix, committed_of}
 use Rattle.proto_safety.specs.Flows.{FitsFrom}
 use Rattle.proto_safety.proofs.Acts.{Fits}
 use Rattle.proto_safety.proofs.BooksStep.{moved_committed}
-use Rattle.proto_safety.proofs.CellsFed.{items_found}
+use Rattle.proto_safety.proofs.CellsFed.{items_found, serial_items}
 use Rattle.proto_safety.proofs.Chains.{each_in}
 use Rattle.proto_safety.proofs.FlowAlarm.{in_append}
 use Rattle.proto_safety.proofs.FlowCells.{CellsOf}
@@ -32,13 +32,14 @@ use Rattle.proto_safety.proofs.Induction.{Keeps, KeepsGiven, Comes, with_fed}
 use Rattle.proto_safety.proofs.LastBook.{advanced_last}
 use Rattle.proto_safety.proofs.Lists.{each_append, each_weaker}
 use Rattle.proto_safety.proofs.ReleasesStep.{Shown, keyless, of_item}
-use Rattle.proto_safety.proofs.SerialLists.{epochs_in, closed_in, serial_in}
-use Rattle.proto_safety.proofs.SerialOnce.{in_flat_parts, closed_of, decomposed}
+use Rattle.proto_safety.proofs.SerialLists.{serial_in}
+use Rattle.proto_safety.proofs.SerialOnce.{decomposed}
 use Rattle.proto_safety.proofs.ShownStep.{step_shown, step_serial}
-use Rattle.proto_safety.proofs.SwitchTable.{msg}
+use Rattle.proto_safety.proofs.SwitchTable.{msg, no_message}
 use Rattle.proto_safety.proofs.WorldBooks.{known_input, stopped_grows}
 use Rattle.proto_safety.proofs.WorldCells.{packet_carried, brought_by, fed_hold}
 use Rattle.proto_safety.proofs.WorldShown.{ShownFacts, key_still, answered, book_serial}
+use Rattle.proto_safety.proofs.FlowBooks.{in_front}
 
 -- an item with this mark, and what stands before it was fed by this event
 pub record Placed (feeds : List Fed) (serial : List Journaled) (event m : ℕ) : Type 0 where
@@ -85,16 +86,6 @@ found_within (f ∷ fs) m event p h at = mark_case (f.packet.mark == m) refl at 
     mark_case true is found rest = let e : f.packet.mark ≡ m = eqb-true f.packet.mark m is in omega (arith, e, h.0)
     mark_case false is found rest = rest found
 
--- an item of a serial list is one of all, with its key
-pub serial_item : (key : Key) (es : List Entry) (items : List Journaled) (j : Journaled) → In (serial_in key es items) j → In items j
-serial_item key es items j i =
-    let d = in_flat_parts (closed_in key es items) (epochs_in key es) j i in (closed_of key es items d.0 j d.1.1).0
-
-pub front_item : {A : Type 0} (pre post : List A) (j q : A) → In pre q → In (pre ++ j ∷ post) q
-front_item [] post j q i = absurd i
-front_item (x ∷ xs) post j q (inl e) = inl e
-front_item (x ∷ xs) post j q (inr i) = inr (front_item xs post j q i)
-
 fed_ordered : (app : Application) (fed : List Fed) (f : Fed) (event : ℕ) (es : List Entry) (items : List Journaled) (r : Released) → f.packet.mark ≡ event + 1 → Each (λ (g : Fed). g.packet.mark ≤ event) fed → ((key : Key) → CellsOf app fed es items key) →
     Ordered app fed es items r → Ordered app (fed ++ f ∷ []) es items r
 fed_ordered app fed f event es items r mark within h (unkeyed p at of) = unkeyed p (found_still fed f r.output.mark p at) of
@@ -105,8 +96,8 @@ fed_ordered app fed f event es items r mark within h (placed key at p) =
     part_case : (q : Journaled) → In p.pre q → (g : Fed) → g.packet.mark ≡ q.item.mark → In fed g ⊎ In (f ∷ []) g → g.event ≤ r.event
     part_case q i g same (inl j) = p.earlier q i g j same
     part_case q i g same (inr (inl e)) =
-        let there : In (serial_in key es items) q = subst (λ l. In l q) (sym p.is) (front_item p.pre p.post p.item q i) in
-        let x = items_found app fed es items h q (serial_item key es items q there) in
+        let there : In (serial_in key es items) q = subst (λ l. In l q) (sym p.is) (in_front p.pre (p.item ∷ p.post) q i) in
+        let x = items_found app fed es items h q (serial_items key es items q there) in
         let low : q.item.mark ≤ event = found_within fed q.item.mark event x.0 within x.1.0 in
         absurd (omega (arith, low, mark, same, ap (λ (y : Fed). y.packet.mark) e))
     part_case q i g same (inr (inr j)) = absurd j
@@ -150,8 +141,8 @@ module _ (app : Application) (is : IsApplication app) (w : World) (f : ShownFact
       let new = found_new w.history.fed (record { event = w.event + 1; packet = p }) w.event mark f.cells.once.within in
       let hold = fed_hold app w f.cells p f.hold in
       more_ordered app feeds (committed_of w.replicas) w.history.items _ w.history.released (w.event + 1) (switch_step app node.state node.clock (Input.Packet p)).1.released
-      (λ key. step_serial app w feeds n node (Input.Packet p) f.cells hold at up new (λ c key from to inc nonce epoch cells came. absurd (never from to came)) is (λ from to inc epoch upto key c came. absurd (never from to came)) (w.event + 1) key)
-      (λ o out. step_shown app w feeds n node (Input.Packet p) f.cells hold at up new (λ c key from to inc nonce epoch cells came. absurd (never from to came)) is (λ from to inc epoch upto key c came. absurd (never from to came)) (w.event + 1) o out)
+      (λ key. step_serial app w feeds n node (Input.Packet p) f.cells hold at up new (λ c key from to inc nonce epoch cells came. absurd (no_message p from to came)) is (λ from to inc epoch upto key c came. absurd (no_message p from to came)) (w.event + 1) key)
+      (λ o out. step_shown app w feeds n node (Input.Packet p) f.cells hold at up new (λ c key from to inc nonce epoch cells came. absurd (no_message p from to came)) is (λ from to inc epoch upto key c came. absurd (no_message p from to came)) (w.event + 1) o out)
       (record {
         within =
             each_append (λ (g : Fed). g.event ≤ w.event + 1) w.history.fed _
@@ -162,9 +153,6 @@ module _ (app : Application) (is : IsApplication app) (w : World) (f : ShownFact
     where
       feeds : List Fed
       feeds = w.history.fed ++ record { event = w.event + 1; packet = p } ∷ []
-
-      never : {b : Body} (from to : Node) → Input.Packet p ≡ msg from to b → ⊥
-      never from to e = cc
 
   book_order : (later : List Entry) → IsPrefix (committed_of w.replicas) later → ((key : Key) → FitsFrom app.cell_count key None later) → OrderIn app w → Orders app w.event w.history.fed later w.history.items w.history.released
   book_order later prefix fits h =

@@ -1,5 +1,5 @@
 -- After every list of events each Grant and each Put of a book or a Forward was asked for: an Ask or a Put that was sent has its numbers.
-use Rattle.std.proofs.Common.{◌⊎◌, zero, suc, append-nil, ◌≡◌, ℕ, List, [], ◌∷◌, ◌++◌, drop, length, map, Option, Some, None, refl, sym, subst, slice_get, inl, inr, false}
+use Rattle.std.proofs.Common.{◌⊎◌, append-nil, ◌≡◌, ℕ, List, [], ◌∷◌, ◌++◌, drop, length, map, Option, Some, None, refl, sym, subst, slice_get, inl, inr, false}
 use Rattle.proto_data.specs.declared.message.Msg.{Msg}
 use Rattle.rp_base.specs.declared.node.Node.{Node}
 use Rattle.proto_data.specs.declared.message.Body.{Body}
@@ -29,7 +29,7 @@ use Rattle.proto_safety.proofs.Lists.{each_at, each_set, each_changed, each_map,
 use Rattle.proto_safety.proofs.Induction.{Keeps, KeepsGiven, keeps_all, keeps_both, run_kept, Comes}
 use Rattle.proto_safety.proofs.WorldBooks.{books_kept, books_hold}
 use Rattle.proto_safety.proofs.Chains.{each_in}
-use Rattle.proto_safety.proofs.WorldGathers.{Gathering, GathersFrom, AllGathers, whole_origin, gathers_kept, opened_gathers}
+use Rattle.proto_safety.proofs.WorldGathers.{Gathering, GathersFrom, AllGathers, whole_origin, gathers_kept, opened_gathers, in_frames}
 
 pub record FrameOrigin (frames : List Msg) (m : Msg) : Type 0 where
   pub from : IsRequest m.body → FromSwitch m.from
@@ -77,7 +77,7 @@ requests_origin frames ms r = each_weaker RequestMsg (FrameOrigin frames) ms (λ
 
 -- ---- a replica's step
 
-from_is_switch : (from : Node) → FromSwitch from → from ≡ Node.Switch (switch_of from)
+pub from_is_switch : (from : Node) → FromSwitch from → from ≡ Node.Switch (switch_of from)
 from_is_switch (Node.Switch s) h = refl
 from_is_switch (Node.Replica r) h = absurd h
 from_is_switch Node.Master h = absurd h
@@ -96,11 +96,6 @@ taken_origin {s = s} {from = from} frames to x (next_snap {inc = inc} {epoch = e
     subst (λ y. Origin frames y) is (whole_origin frames s from to inc epoch round chunk chunks key cells whole h fits w i g)
 taken_origin frames to x (forwarded c n fits) is i f k g = subst (λ y. Origin frames y) is k
 taken_origin frames to x _ is i f k g = absurd is
-
-in_frames : {A : Type 0} (xs : List A) (i : ℕ) (x : A) → slice_get xs i ≡ Some x → In xs x
-in_frames [] i x at = cc
-in_frames (y ∷ ys) zero x at = inl cc
-in_frames (y ∷ ys) (suc i) x at = inr (in_frames ys i x at)
 
 row_origin : (w : World) (n : ℕ) (s : Replica) (now : ℕ) (input : Input) (row : StoreRow) (x : Entry) → RowOf s now input row → Has row x → Comes w (Node.Replica n) input → Each (FrameOrigin w.frames) w.frames → Gathering w.frames s.cell_count s.gathered → Origin w.frames x
 row_origin w n s now (Input.Msg m) row x (of_message t) is from h g =

@@ -1,5 +1,5 @@
 -- In strict mode: each Put frame and each item is of a granted epoch, with a number that its slot has reached while it is leased in that epoch; an Asking slot whose Grant stands in a running book has done nothing in its epoch.
-use Rattle.std.proofs.Common.{◌≡◌, ◌≢◌, ◌⊎◌, inl, inr, ℕ, ◌+◌, ◌≤◌, List, [], ◌∷◌, ◌++◌, Option, Some, None, refl, sym, ap, ◌∙◌, subst, true, set, slice_get, arith, append-nil, zero, suc}
+use Rattle.std.proofs.Common.{◌≡◌, ◌≢◌, ◌⊎◌, inl, inr, ℕ, ◌+◌, ◌≤◌, List, [], ◌∷◌, ◌++◌, Option, Some, None, refl, sym, ap, ◌∙◌, subst, true, set, slice_get, arith, append-nil}
 use Rattle.rp_base.specs.declared.node.Node.{Node}
 use Rattle.proto_data.specs.declared.message.Msg.{Msg}
 use Rattle.proto_data.specs.declared.message.Body.{Body}
@@ -19,7 +19,7 @@ use Rattle.proto_model.specs.World.{SwitchNode, ReplicaNode, Journaled}
 use Rattle.proto_safety.specs.Books.{In, IsPrefix, lives, committed_of}
 use Rattle.proto_safety.specs.Flows.{FitsFrom}
 use Rattle.proto_safety.specs.SwitchSent.{SentNow, SaysNow, PutsNow}
-use Rattle.proto_safety.proofs.Places.{at_set}
+use Rattle.proto_safety.proofs.Places.{at_set, get-set_same}
 use Rattle.proto_safety.proofs.Chains.{each_in}
 use Rattle.proto_safety.proofs.FlowAlarm.{in_append}
 use Rattle.proto_safety.proofs.FlowBooks.{in_prefix}
@@ -107,11 +107,6 @@ put_parts frames ms n inc e k key p = parts_case (in_append frames ms p.msg p.th
     parts_case (inl i) = inl (record { msg = p.msg; there = i; from_is = p.from_is; delta = p.delta; load = p.load; body_is = p.body_is })
     parts_case (inr i) = inr (record { msg = p.msg; there = i; from_is = p.from_is; delta = p.delta; load = p.load; body_is = p.body_is })
 
-pub set_at : {A : Type 0} (xs : List A) (n : ℕ) (x y : A) → slice_get xs n ≡ Some x → slice_get (set xs n y) n ≡ Some y
-set_at [] n x y at = absurd cc
-set_at (z ∷ zs) zero x y at = refl
-set_at (z ∷ zs) (suc n) x y at = set_at zs n x y at
-
 -- ---- a switch takes an input
 
 module _ (app : Application) (frames : List Msg) (switches : List SwitchNode) (replicas : List ReplicaNode) (items : List Journaled) (n : ℕ) (node : SwitchNode) (input : Input) (at : slice_get switches n ≡ Some node) where
@@ -128,7 +123,7 @@ module _ (app : Application) (frames : List Msg) (switches : List SwitchNode) (r
   after = set switches n moved
 
   at_after : slice_get after n ≡ Some moved
-  at_after = set_at switches n node moved at
+  at_after = get-set_same switches n node moved at
 
   module _ (k : Known app.cell_count frames switches replicas) (later : Known app.cell_count (frames ++ sent) after replicas)
       (told : (from to : Node) (nonce e : ℕ) (key : Key) (cells : List ℕ) (load : Option Carried) → input ≡ msg from to (Body.Grant node.state.inc nonce e key cells load) → In (committed_of replicas) (Entry.Grant key e n node.state.inc nonce))

@@ -23,7 +23,7 @@ use Rattle.proto_model.specs.Stands.{entries_of}
 use Rattle.proto_model.specs.World.{World, Setup, Journaled, SwitchNode, ReplicaNode, opened, running_switches, running_replicas}
 use Rattle.proto_model.specs.WorldStep.{advanced_switches, advanced_replicas, changed_at, announcements, config_msg}
 use Rattle.proto_safety.specs.Books.{In, IsPrefix, lives, committed_of}
-use Rattle.proto_safety.proofs.Places.{at_set, at_changed}
+use Rattle.proto_safety.proofs.Places.{at_set, at_changed, get-set_same}
 use Rattle.proto_safety.proofs.Lists.{each_append, each_map, each_weaker}
 use Rattle.proto_safety.proofs.SwitchNodes.{AllAt, all_changed, all_advanced}
 use Rattle.proto_safety.proofs.FlowAlarm.{in_append}
@@ -36,7 +36,7 @@ use Rattle.proto_safety.proofs.StoreBooks.{SentBooks}
 use Rattle.proto_safety.proofs.BooksStep.{step_sent, moved_committed}
 use Rattle.proto_safety.proofs.WorldBooks.{known_input, advanced_committed, stopped_grows}
 use Rattle.proto_safety.proofs.WorldFlows.{told_input}
-use Rattle.proto_safety.proofs.WorldPuts.{Known, Owned, PutsFit, moved_puts, set_at}
+use Rattle.proto_safety.proofs.WorldPuts.{Known, Owned, PutsFit, moved_puts}
 use Rattle.proto_safety.proofs.PutsKept.{NoPut, SlotWas, GrantWas, not_again, changed_puts}
 use Rattle.proto_safety.proofs.Ground.{Ground, ground_kept, known_of}
 use Rattle.proto_safety.proofs.Induction.{KeepsGiven, Comes, with_fed}
@@ -162,7 +162,7 @@ puts_kept app =
           (each_weaker (λ (m : Msg). SentBooks step.0 (entries_of new.book) m.from m.to m.body) NoPut step.1.sent (λ m s. no_put step.0 (entries_of new.book) m s) (step_sent node.state node.book node.clock w.event input stands))
           (moved_committed g.0.0.0.0.0.0 w.config w.replicas n node w.event input at up g.0.0.0.0.0.1.configs g.0.0.0.0.0.1.nodes (known_input g.0.0.0.0.0.0 w n input from g.0.0.0.0.0.1))
           (λ m x key slot there found. as_they_were w.switches m x there key slot found)
-          (applied_grants app w n node input node.book at up (known_of app.cell_count w g) new refl (λ key. later.fits n new key (set_at w.replicas n node new at))) h;
+          (applied_grants app w n node input node.book at up (known_of app.cell_count w g) new refl (λ key. later.fits n new key (get-set_same w.replicas n node new at))) h;
       advances = λ w by fits g h.
           quietly w.frames w.switches (advanced_switches w.switches by) w.replicas (advanced_replicas w.replicas (drop (length w.switches) by)) w.history.items (advanced_committed w.replicas (drop (length w.switches) by))
           (all_advanced (SlotsWere w.switches) w.switches by (λ m d x k key slot found. let s = k key slot found in record { node_was = s.node_was; at = s.at; found = s.found; inc = s.inc }) (as_they_were w.switches))

@@ -25,7 +25,7 @@ use Rattle.proto_safety.proofs.LastBook.{advanced_last}
 use Rattle.proto_safety.proofs.Places.{prefix_trans}
 use Rattle.proto_safety.proofs.SerialLists.{serial_in}
 use Rattle.proto_safety.proofs.ShownStep.{step_serial}
-use Rattle.proto_safety.proofs.SwitchTable.{msg}
+use Rattle.proto_safety.proofs.SwitchTable.{msg, no_message}
 use Rattle.proto_safety.proofs.WorldBooks.{known_input, stopped_grows}
 use Rattle.proto_safety.proofs.WorldCells.{packet_carried, brought_by, fed_hold}
 use Rattle.proto_safety.proofs.WorldShown.{ShownFacts, answered, book_serial}
@@ -52,12 +52,9 @@ module _ (app : Application) (is : IsApplication app) (es : List Entry) (items :
       record {
         at = λ key.
             prefix_trans (h.at key)
-            (step_serial app w (w.history.fed ++ record { event = w.event + 1; packet = p } ∷ []) n node (Input.Packet p) f.cells (fed_hold app w f.cells p f.hold) at up new (λ c key from to inc nonce epoch cells came. absurd (never from to came)) is
-            (λ from to inc epoch upto key c came. absurd (never from to came)) (w.event + 1) key);
+            (step_serial app w (w.history.fed ++ record { event = w.event + 1; packet = p } ∷ []) n node (Input.Packet p) f.cells (fed_hold app w f.cells p f.hold) at up new (λ c key from to inc nonce epoch cells came. absurd (no_message p from to came)) is
+            (λ from to inc epoch upto key c came. absurd (no_message p from to came)) (w.event + 1) key);
       }
-    where
-      never : {b : Body} (from to : Node) → Input.Packet p ≡ msg from to b → ⊥
-      never from to e = cc
 
 module _ (app : Application) (is : IsApplication app) (es : List Entry) (items : List Journaled) (I : World → Type 0) (k : Keeps app I) (facts : (w : World) → I w → ShownFacts app w) where
   replica_serial : (w : World) (n : ℕ) (node : ReplicaNode) (input : Input) → slice_get w.replicas n ≡ Some node → node.runs ≡ true → Comes w (Node.Replica n) input → I w → Onward es items w → Onward es items (replica_moved w n node (store_step node.state node.clock input))

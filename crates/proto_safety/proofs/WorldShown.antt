@@ -36,7 +36,7 @@ use Rattle.proto_safety.proofs.ReleasesStep.{Shown, keyless, of_item}
 use Rattle.proto_safety.proofs.SerialGrows.{serial_book_grows}
 use Rattle.proto_safety.proofs.SerialLists.{serial_in}
 use Rattle.proto_safety.proofs.ShownStep.{step_shown, step_serial}
-use Rattle.proto_safety.proofs.SwitchTable.{msg}
+use Rattle.proto_safety.proofs.SwitchTable.{msg, no_message}
 use Rattle.proto_safety.proofs.WorldBooks.{known_input, stopped_grows}
 use Rattle.proto_safety.proofs.WorldCells.{Cells, packet_carried, brought_by, fed_hold}
 use Rattle.proto_safety.proofs.WorldOutputs.{OutputsRide}
@@ -116,15 +116,12 @@ module _ (app : Application) (is : IsApplication app) (w : World) (f : ShownFact
       let new = found_new w.history.fed (record { event = w.event + 1; packet = p }) w.event mark f.cells.once.within in
       let hold = fed_hold app w f.cells p f.hold in
       more_shown app feeds (committed_of w.replicas) w.history.items _ w.history.released (w.event + 1) (switch_step app node.state node.clock (Input.Packet p)).1.released
-      (λ key. step_serial app w feeds n node (Input.Packet p) f.cells hold at up new (λ c key from to inc nonce epoch cells came. absurd (never from to came)) is (λ from to inc epoch upto key c came. absurd (never from to came)) (w.event + 1) key)
-      (λ o out. step_shown app w feeds n node (Input.Packet p) f.cells hold at up new (λ c key from to inc nonce epoch cells came. absurd (never from to came)) is (λ from to inc epoch upto key c came. absurd (never from to came)) (w.event + 1) o out)
+      (λ key. step_serial app w feeds n node (Input.Packet p) f.cells hold at up new (λ c key from to inc nonce epoch cells came. absurd (no_message p from to came)) is (λ from to inc epoch upto key c came. absurd (no_message p from to came)) (w.event + 1) key)
+      (λ o out. step_shown app w feeds n node (Input.Packet p) f.cells hold at up new (λ c key from to inc nonce epoch cells came. absurd (no_message p from to came)) is (λ from to inc epoch upto key c came. absurd (no_message p from to came)) (w.event + 1) o out)
       (record { at = λ r i. fed_shown app w.history.fed (record { event = w.event + 1; packet = p }) (committed_of w.replicas) w.history.items r.output (h.at r i) })
     where
       feeds : List Fed
       feeds = w.history.fed ++ record { event = w.event + 1; packet = p } ∷ []
-
-      never : {b : Body} (from to : Node) → Input.Packet p ≡ msg from to b → ⊥
-      never from to e = cc
 
   -- the committed book goes on
   pub book_serial : (later : List Entry) → IsPrefix (committed_of w.replicas) later → ((key : Key) → FitsFrom app.cell_count key None later) → (key : Key) → IsPrefix (serial_in key (committed_of w.replicas) w.history.items) (serial_in key later w.history.items)
