@@ -10,10 +10,8 @@ use Rattle.proto_model.specs.ReplicaRows.{entry_key}
 use Rattle.proto_model.specs.Committed.{greater, number_in, closing_of, epoch_granted, epochs_of, is_in, is_closed, closed_items, serial_marks, committed_book}
 use Rattle.rp_world.specs.Endings.{Numbered, numbered, marked, closing_in, granted_in, is_within, marks_in, serial_in}
 use Rattle.rp_world.proofs.NotesKept.{numbers_of, marked_of}
-
-greater_none : (c : Option ℕ) → greater c None ≡ c
-greater_none None = refl
-greater_none (Some a) = refl
+use Rattle.proto_safety.proofs.EpochNumbers.{greater-None}
+use Rattle.proto_safety.proofs.SerialLists.{no_grant, flat_map_same}
 
 -- what one entry adds to the greatest number of an epoch
 abbrev number_at : ℕ → Numbered → Option ℕ
@@ -39,7 +37,7 @@ closing_same_from k e c (b ∷ bs) = by (same_key (entry_key b.entry) k) refl (�
         fold (λ c (n : Numbered). greater c (number_at e n)) c (if s then numbered b.entry ∷ numbers_of k bs else numbers_of k bs)
         ≡ fold (λ c (b : Booked). greater c (number_in k e b.entry)) (greater c (number_in k e b.entry)) bs
     by true is rest = rw (number_same k e b.entry is) (rest (greater c (number_at e (numbered b.entry))))
-    by false is rest = rw (number_other k e b.entry is, greater_none c) (rest c)
+    by false is rest = rw (number_other k e b.entry is, greater-None c) (rest c)
 
 pub closing-same : (k : Key) (e : ℕ) (book : List Booked) → closing_in e (numbers_of k book) ≡ closing_of k e book
 closing-same k e book = closing_same_from k e None book
@@ -52,11 +50,6 @@ granted_entry_same : (k : Key) (x : Entry) → same_key (entry_key x) k ≡ true
 granted_entry_same k (Entry.Grant key epoch switch inc nonce) is = rw is refl
 granted_entry_same k (Entry.Put key epoch number delta) is = refl
 granted_entry_same k (Entry.Snap key epoch round cells) is = refl
-
-granted_entry_other : (k : Key) (x : Entry) → same_key (entry_key x) k ≡ false → epoch_granted k x ≡ None
-granted_entry_other k (Entry.Grant key epoch switch inc nonce) is = rw is refl
-granted_entry_other k (Entry.Put key epoch number delta) is = refl
-granted_entry_other k (Entry.Snap key epoch round cells) is = refl
 
 abbrev consed : {X : Type 0} → Option X → List X → List X
 consed None xs = xs
@@ -82,7 +75,7 @@ granted-same k (b ∷ bs) = by (same_key (entry_key b.entry) k) refl (granted-sa
   where
     by : (s : Bool) → same_key (entry_key b.entry) k ≡ s → granted_in (numbers_of k bs) ≡ epochs_of k bs → granted_in (if s then numbered b.entry ∷ numbers_of k bs else numbers_of k bs) ≡ epochs_of k (b ∷ bs)
     by true is rest = granted_step (numbered b.entry) (numbers_of k bs) ∙ ap (consed (grant_at (numbered b.entry))) rest ∙ ap (λ o. consed o (epochs_of k bs)) (sym (granted_entry_same k b.entry is)) ∙ sym (epochs_step k b bs)
-    by false is rest = rest ∙ ap (λ o. consed o (epochs_of k bs)) (sym (granted_entry_other k b.entry is)) ∙ sym (epochs_step k b bs)
+    by false is rest = rest ∙ ap (λ o. consed o (epochs_of k bs)) (sym (no_grant k b.entry is)) ∙ sym (epochs_step k b bs)
 
 -- the marks of the items of an epoch up to its closing
 abbrev marks_of : Option ℕ → Key → ℕ → List Journaled → List ℕ
@@ -108,13 +101,9 @@ map_flat : (f : ℕ → List Journaled) (es : List ℕ) → map (λ (j : Journal
 map_flat f [] = refl
 map_flat f (e ∷ es) = map-append (λ (j : Journaled). j.item.mark) (f e) (flat_map f es) ∙ ap (λ ms. map (λ (j : Journaled). j.item.mark) (f e) ++ ms) (map_flat f es)
 
-flat_same : (f g : ℕ → List ℕ) → ((e : ℕ) → f e ≡ g e) → (es : List ℕ) → flat_map f es ≡ flat_map g es
-flat_same f g h [] = refl
-flat_same f g h (e ∷ es) = λ i. h e i ++ flat_same f g h es i
-
 -- the serial list of a flow, from its notes
 pub serial-same : (w : World) (k : Key) → serial_in (record { entries = numbers_of k (committed_book w); items = marked_of k w.history.items }) ≡ serial_marks w k
 serial-same w k =
     ap (flat_map (λ e. marks_in (closing_in e (numbers_of k (committed_book w))) e (marked_of k w.history.items))) (granted-same k (committed_book w))
-    ∙ flat_same _ _ (λ e. ap (λ c. marks_in c e (marked_of k w.history.items)) (closing-same k e (committed_book w)) ∙ marks-same (closing_of k e (committed_book w)) k e w.history.items) (epochs_of k (committed_book w))
+    ∙ flat_map_same _ _ (epochs_of k (committed_book w)) (λ e _. ap (λ c. marks_in c e (marked_of k w.history.items)) (closing-same k e (committed_book w)) ∙ marks-same (closing_of k e (committed_book w)) k e w.history.items)
     ∙ sym (map_flat (closed_items w k) (epochs_of k (committed_book w)))

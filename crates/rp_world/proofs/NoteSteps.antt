@@ -1,5 +1,5 @@
 -- One more entry or item, in the loops that take notes and read them.
-use Rattle.std.proofs.Common.{◌≡◌, ℕ, ◌+◌, ◌<◌, zero, suc, slice_get, [], ◌∷◌, ◌++◌, List, Option, Some, None, refl, sym, ap, ◌∙◌, true, false, Bool, take, length, get_or, add-one, append-nil, eqb-true, eq-eqb, subst}
+use Rattle.std.proofs.Common.{◌≡◌, ℕ, ◌+◌, ◌<◌, slice_get, [], ◌∷◌, ◌++◌, List, Option, Some, None, refl, sym, ap, ◌∙◌, true, false, Bool, take, length, get_or, add-one, append-nil, eqb-true, eq-eqb, subst}
 use Rattle.std.proofs.Math.Seq.{take-suc}
 use Rattle.std.specs.Prelude.{◌==◌, flat_map}
 use Rattle.std.proofs.lemmas.List.Elements.{filter_map-append}
@@ -9,6 +9,7 @@ use Rattle.proto_model.specs.Table.{Key, Table, get, put}
 use Rattle.proto_model.specs.SwitchState.{Item}
 use Rattle.proto_model.specs.ReplicaRows.{entry_key}
 use Rattle.rp_world.specs.Endings.{Numbered, Marked, FlowNotes, numbered, marked, notes_or_none, with_entry, with_item, granted_in, is_within, marks_in}
+use Rattle.proto_safety.proofs.ClockSums.{take_one_more, take_all_there}
 
 pub next_item : {X : Type 0} (xs : List X) (i : ℕ) (x y : X) → i < length xs → x ≡ y → y ≡ get_or xs i y → take (i + 1) xs ≡ take i xs ++ x ∷ []
 next_item xs i x y l same at = ap (λ n. take n xs) (add-one i) ∙ take-suc xs i y l ∙ ap (λ z. take i xs ++ z ∷ []) (sym at ∙ sym same)
@@ -86,24 +87,13 @@ item_stored t s x k m f ns ms same key mark has entries items =
     let rest : ns ≡ (notes_or_none (get s x.key)).entries = entries ∙ ap (λ (f : FlowNotes). f.entries) (sym at) in
     λ i. put (same i) (key i) (record { entries = rest i; items = all i })
 
-take_at : {X : Type 0} (xs : List X) (i : ℕ) (x : X) → slice_get xs i ≡ Some x → take (suc i) xs ≡ take i xs ++ x ∷ []
-take_at [] i x h = absurd cc
-take_at (y ∷ ys) zero x h = let e : y ≡ x = cc in ap (λ z. z ∷ []) e
-take_at (y ∷ ys) (suc i) x h = ap (λ zs. y ∷ zs) (take_at ys i x h)
-
-take_none : {X : Type 0} (xs : List X) (i : ℕ) → slice_get xs i ≡ None → take (suc i) xs ≡ take i xs
-take_none [] zero h = refl
-take_none [] (suc i) h = refl
-take_none (y ∷ ys) zero h = absurd cc
-take_none (y ∷ ys) (suc i) h = ap (λ zs. y ∷ zs) (take_none ys i h)
-
 -- what is made of the members of a list, one more member on
 pub each_more : {X Y : Type 0} (f : X → List Y) (xs : List X) (i : ℕ) (x : X) → slice_get xs i ≡ Some x → flat_map f (take (i + 1) xs) ≡ flat_map f (take i xs) ++ f x
 each_more f xs i x h =
     ap (λ n. flat_map f (take n xs)) (add-one i)
-    ∙ ap (flat_map f) (take_at xs i x h)
+    ∙ ap (flat_map f) (take_one_more i xs x h)
     ∙ flat_map-append f (take i xs) (x ∷ [])
     ∙ ap (λ ys. flat_map f (take i xs) ++ ys) (append-nil (f x))
 
 pub each_stays : {X Y : Type 0} (f : X → List Y) (xs : List X) (i : ℕ) → slice_get xs i ≡ None → flat_map f (take (i + 1) xs) ≡ flat_map f (take i xs)
-each_stays f xs i h = ap (λ n. flat_map f (take n xs)) (add-one i) ∙ ap (flat_map f) (take_none xs i h)
+each_stays f xs i h = ap (λ n. flat_map f (take n xs)) (add-one i) ∙ ap (flat_map f) (take_all_there i xs h)

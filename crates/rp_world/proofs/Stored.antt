@@ -1,13 +1,14 @@
 -- What a Grant and a Put keep of the records.
-use Rattle.std.proofs.Common.{◌≡◌, ℕ, ◌+◌, ◌≤◌, List, [], ◌∷◌, Option, Some, None, refl, sym, ◌∙◌, subst, true, false, Bool, length, arith, length-set}
+use Rattle.std.proofs.Common.{◌≡◌, ℕ, ◌+◌, ◌≤◌, Option, Some, None, refl, sym, ◌∙◌, subst, true, false, Bool, length, arith}
 use Rattle.std.proofs.lemmas.List.{length-replicate}
-use Rattle.rp_app.specs.Application.{Delta, written}
+use Rattle.rp_app.specs.Application.{Delta}
 use Rattle.proto_data.specs.declared.message.Record.{Record}
 use Rattle.proto_data.specs.declared.message.Entry.{Entry}
 use Rattle.proto_model.specs.Table.{Key, same_key, get, put}
 use Rattle.proto_model.specs.ReplicaState.{Replica}
 use Rattle.proto_model.specs.Records.{Records, cells_of, put_applied, applied}
 use Rattle.proto_safety.proofs.Tables.{same_key-true, get-put_same, get-put_other, same_some}
+use Rattle.proto_safety.proofs.FlowCellCount.{length-written}
 use Rattle.rp_world.specs.Store.{IsRecord, AreRecords}
 
 later : {c a : ℕ} {r : Record} → IsRecord c a r → IsRecord c (a + 1) r
@@ -25,10 +26,6 @@ records-put c a t k r h is j s has = by (same_key k j) refl
         let there : get (put t k r) j ≡ Some r = rw (sym e) (get-put_same t k r) in
         let v : r ≡ s = same_some (get (put t k r) j) r s there has in rw (sym v) is
     by false ne = later (h j s (sym (get-put_other t j k r ne) ∙ has))
-
-pub length-written : (cells : List ℕ) (delta : Delta) → length (written cells delta) ≡ length cells
-length-written cells [] = refl
-length-written cells (d ∷ ds) = length-written _ ds ∙ length-set cells d.0 d.1
 
 length-cells_of : (c a : ℕ) (t : Records) → AreRecords c a t → (k : Key) (o : Option Record) → get t k ≡ o → length (cells_of c o) ≡ c
 length-cells_of c a t h k None is = length-replicate c 0
