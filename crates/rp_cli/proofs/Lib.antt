@@ -1,5 +1,4 @@
 pub mod Fronts
 pub mod Schedules
 pub mod ReportTexts
-pub mod EventCounts
 pub mod LegalRuns

@@ -10,7 +10,7 @@ use Rattle.run_report.specs.Report.{NamesKind, lines_text}
 use Rattle.rp_cli.specs.Reports.{report_text}
 use Rattle.rp_cli.proofs.Fronts.{Midway, Midway-begun, Midway-more, Midway-front, Midway-part, Midway-whole, on_err, on_err-map, on_ok-map}
 use Rattle.rp_cli.proofs.ReportTexts.{rest_text, rest_text-on, rest_text-end, report_text-is, shown-names}
-use Rattle.rp_cli.proofs.EventCounts.{event-world_step}
+use Rattle.proto_safety.proofs.EventCounts.{event_counts}
 use Rattle.rp_cli.proofs.running.write_report.Goals as goal
 
 pub loop-event-init : goal.loop-event-init
@@ -37,7 +37,7 @@ loop-event-preserved g c =
     let number : World × List Line → ℕ = λ p. p.0.event in
     record {
       same_app = c.on.ensures.app ∙ c.loop-event.invariant.same_app;
-      count = ap number on ∙ event-world_step app c.loop-event.world.world c.event-item.result ∙ ap (λ n. n + 1) c.loop-event.invariant.count;
+      count = ap number on ∙ event_counts app c.loop-event.world.world c.event-item.result ∙ ap (λ n. n + 1) c.loop-event.invariant.count;
       midway = Midway-more _ _ _ _ _ _ (rw cut at c.loop-event.invariant.midway) (rw c.as_slice.ensures at c.in_ok-write_lines.ensures.ok);
       later = omega arith;
     }
