@@ -1,11 +1,12 @@
 -- Sizes in tables, chains and deltas.
-use Rattle.std.proofs.Common.{◌≡◌, ℕ, ◌+◌, ◌≤◌, ◌<◌, List, [], ◌∷◌, length, Some, arith, refl, true, false, Bool, subst}
+use Rattle.std.proofs.Common.{◌≡◌, ℕ, ◌≤◌, ◌<◌, List, [], ◌∷◌, length, Some, arith, refl, true, false, Bool, subst}
 use Rattle.std.specs.Prelude.{◌==◌, if◌then◌else◌}
 use Rattle.std.specs.List.{All}
-use Rattle.std.proofs.lemmas.Bool.{and_parts, lt-ltb, ltb-true}
-use Rattle.std.proofs.lemmas.List.Elements.{All-head, All-tail, All-nil}
+use Rattle.std.proofs.lemmas.Bool.{lt-ltb}
+use Rattle.std.proofs.lemmas.List.Elements.{All-nil}
 use Rattle.proto_data.specs.MessageFits.{is_store}
-use Rattle.rp_app.specs.Application.{Delta, IsDelta, rising, cells_named}
+use Rattle.rp_app.specs.Application.{Delta, IsDelta, cells_named}
+use Rattle.rp_app.proofs.Deltas.{short_is, named_length}
 use Rattle.proto_model.specs.Feeds.{Each}
 use Rattle.proto_model.specs.Table.{Key, Table, same_key, get, put, map_values}
 use Rattle.proto_model.specs.Slot.{chunk_count}
@@ -74,25 +75,8 @@ predecessor_is P (x ∷ y ∷ ys) me n at h = next_case (y == me) (λ is. predec
 
 -- ---- deltas and chunks
 
--- a rising list of numbers below n has at most n members
-rising_few : (n x : ℕ) (xs : List ℕ) → rising (x ∷ xs) ≡ true → All (λ c. c < n) (x ∷ xs) → x + length (x ∷ xs) ≤ n
-rising_few n x [] r h = let first : x < n = All-head (λ c. c < n) x [] h in omega arith
-rising_few n x (y ∷ ys) r h =
-    let parts = and_parts _ _ r in
-    let above : x < y = ltb-true x y parts.0 in
-    let rest : y + length (y ∷ ys) ≤ n = rising_few n y ys parts.1 (All-tail (λ c. c < n) x (y ∷ ys) h) in
-    omega arith
-
-named_few : (n : ℕ) (xs : List ℕ) → rising xs ≡ true → All (λ c. c < n) xs → length xs ≤ n
-named_few n [] r h = omega arith
-named_few n (x ∷ xs) r h = let few = rising_few n x xs r h in omega (arith, few)
-
 pub delta_few : (n : ℕ) (delta : Delta) → IsDelta delta → All (λ c. c < n) (cells_named delta) → DeltaSized n delta
-delta_few n delta is h = (is, omega (arith, named_few n (cells_named delta) is.rises h, length_named delta))
-  where
-    length_named : (ds : Delta) → length (cells_named ds) ≡ length ds
-    length_named [] = refl
-    length_named (d ∷ ds) = omega (arith, length_named ds)
+delta_few n delta is h = (is, omega (arith, short_is n (cells_named delta) is.rises h, named_length delta))
 
 pub no_delta : (d : ℕ) → DeltaSized d []
 no_delta d = (record { rises = refl; within = All-nil (λ c. c < 256); short = omega arith }, omega arith)

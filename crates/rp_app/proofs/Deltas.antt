@@ -98,7 +98,7 @@ within_with n (d ∷ ds) cell v h lt =
     ]
 
 -- rising numbers below n, from x on, are at most n - x
-short_from : (n x : ℕ) (xs : List ℕ) → rising (x ∷ xs) ≡ true → All (λ c. c < n) (x ∷ xs) → x + length (x ∷ xs) ≤ n
+pub short_from : (n x : ℕ) (xs : List ℕ) → rising (x ∷ xs) ≡ true → All (λ c. c < n) (x ∷ xs) → x + length (x ∷ xs) ≤ n
 short_from n x [] h below = let lt : x < n = All-head (λ c. c < n) x [] below in omega arith
 short_from n x (y ∷ ys) h below =
     let hs = and_parts _ _ h in
@@ -106,11 +106,11 @@ short_from n x (y ∷ ys) h below =
     let more : y + length (y ∷ ys) ≤ n = short_from n y ys hs.1 (All-tail (λ c. c < n) x (y ∷ ys) below) in
     omega arith
 
-short_is : (n : ℕ) (xs : List ℕ) → rising xs ≡ true → All (λ c. c < n) xs → length xs ≤ n
+pub short_is : (n : ℕ) (xs : List ℕ) → rising xs ≡ true → All (λ c. c < n) xs → length xs ≤ n
 short_is n [] h below = omega arith
 short_is n (x ∷ xs) h below = omega (arith, short_from n x xs h below)
 
-named_length : (ds : Delta) → length (cells_named ds) ≡ length ds
+pub named_length : (ds : Delta) → length (cells_named ds) ≡ length ds
 named_length ds = grind (arith, common_steps)
 
 pub with_cell-IsDelta : (ds : Delta) (cell v : ℕ) → IsDelta ds → cell < 256 → IsDelta (with_cell ds cell v)
