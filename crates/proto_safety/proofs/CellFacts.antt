@@ -140,13 +140,3 @@ was_held now (Held k d x) nonce e expiry is = held_case (nat_le x now) refl is
     held_case true le is = cc
     held_case false gt is = let same : x ≡ expiry = cc in (is, omega (arith, leb-false x now gt))
 was_held now (Lapsed k d x) nonce e expiry is = cc
-
-pub was_asking : (now : ℕ) (l : Lease) (nonce first : ℕ) → lapsed_lease now l ≡ Asking nonce first → l ≡ Asking nonce first
-was_asking now Idle nonce first is = cc
-was_asking now (Asking k x) nonce first is = is
-was_asking now (Held k d x) nonce first is = held_case (nat_le x now) is
-  where
-    held_case : (b : Bool) → (if b then Lapsed k d x else Held k d x) ≡ Asking nonce first → Held k d x ≡ Asking nonce first
-    held_case true is = cc
-    held_case false is = cc
-was_asking now (Lapsed k d x) nonce first is = cc

@@ -29,7 +29,7 @@ use Rattle.proto_safety.specs.LeaseLaws.{HasEpoch}
 use Rattle.proto_safety.specs.Origins.{Origin, SnapSent, ChunkSent}
 use Rattle.proto_safety.specs.SwitchSent.{SentNow, PutsNow, SaysNow}
 use Rattle.proto_safety.proofs.BookEpochs.{one_grant}
-use Rattle.proto_safety.proofs.CellFacts.{CellFacts, CellsHold, OwnGrant, SentPut, GrantSaid, number_low, was_slot, was_held, was_asking}
+use Rattle.proto_safety.proofs.CellFacts.{CellFacts, CellsHold, OwnGrant, SentPut, GrantSaid, number_low, was_slot, was_held}
 use Rattle.proto_safety.proofs.Chains.{each_in}
 use Rattle.proto_safety.proofs.Copies.{HasSlot, is_leased}
 use Rattle.proto_safety.proofs.EpochNumbers.{IsNumber, number_epoch, number_value}
@@ -43,6 +43,7 @@ use Rattle.proto_safety.proofs.NoSnaps.{NoSnap}
 use Rattle.proto_safety.proofs.Places.{at_set}
 use Rattle.proto_safety.proofs.SerialLists.{closing_in, closed_in, journal_in, front_in}
 use Rattle.proto_safety.proofs.SerialFronts.{serial_parts}
+use Rattle.proto_safety.proofs.SlotFirsts.{lapsed_asking}
 use Rattle.proto_safety.proofs.SwitchCells.{row_from, RowFacts, ReadyFacts, SwitchStands, lapsed_stands, ready_from, cells_in}
 use Rattle.proto_safety.proofs.SwitchItems.{clean_delta, ItemFacts, own_flow, put_kept, direct_stands, mirrored_stands, elsewhere_stands}
 use Rattle.proto_safety.proofs.SwitchNodes.{AllAt}
@@ -105,7 +106,7 @@ module _ (app : Application) (w : World) (feeds : List Fed) (n : ℕ) (node : Sw
   said from to inc nonce epoch first key cells load slot is t =
       let o = was_slot node.state node.clock key slot t.at in
       let own : inc ≡ node.state.inc = eqb-true inc node.state.inc t.here in
-      let asking : o.old.lease ≡ Asking nonce first = was_asking node.clock o.old.lease nonce first (ap (λ (x : Slot). x.lease) o.is ∙ t.asking) in
+      let asking : o.old.lease ≡ Asking nonce first = lapsed_asking node.clock nonce first o.old.lease (ap (λ (x : Slot). x.lease) o.is ∙ t.asking) in
       facts.grants n nonce first epoch from to key cells load node o.old at up o.found asking t.young
       (subst (λ i. Comes w (Node.Switch n) (msg from to (Body.Grant i nonce epoch key cells load))) own (came_here input from to inc nonce epoch key cells load is brought))
 

@@ -1,12 +1,12 @@
 -- A leased slot has as many cells as the application keeps.
-use Rattle.std.proofs.Common.{◌≡◌, ℕ, List, [], ◌∷◌, length, length-set, Option, Some, None, refl, sym, ◌∙◌, subst, true, eqb-true}
-use Rattle.std.specs.Prelude.{set, option_map}
+use Rattle.std.proofs.Common.{◌≡◌, ℕ, List, length, Option, Some, None, refl, sym, ◌∙◌, subst, true, eqb-true}
+use Rattle.std.specs.Prelude.{option_map}
 use Rattle.std.proofs.lemmas.Bool.{false≢true}
 use Rattle.proto_data.specs.declared.message.Input.{Input}
 use Rattle.proto_data.specs.declared.terms.Terms.{Terms}
 use Rattle.rp_base.specs.declared.event.Event.{Event}
 use Rattle.rp_base.specs.declared.node.Packet.{Packet}
-use Rattle.rp_app.specs.Application.{Application, Delta, written}
+use Rattle.rp_app.specs.Application.{Application}
 use Rattle.proto_model.specs.Table.{Key}
 use Rattle.proto_model.specs.Feeds.{Each}
 use Rattle.proto_model.specs.Slot.{Slot, Lease, Idle, Asking, Held, Lapsed, lapsed_slot, extended}
@@ -20,11 +20,7 @@ use Rattle.proto_safety.proofs.SwitchTable.{Ready, fed, at_grant, at_grant_again
 use Rattle.proto_safety.proofs.FlowMoves.{View, Move, elsewhere, lapses, asks, asks_again, takes_grant, forgets, direct, mirrored, acked, idles, resends, keeps_lease, snapped, round_done, sends_chunk, begins_round}
 use Rattle.proto_safety.proofs.FlowInduction.{FlowKeeps, Holds, flows_hold, flows_kept}
 use Rattle.proto_safety.proofs.Induction.{Keeps}
-use Rattle.proto_safety.proofs.SlotCells.{lapsed_leased}
-
-pub length-written : (cells : List ℕ) (delta : Delta) → length (written cells delta) ≡ length cells
-length-written cells [] = refl
-length-written cells (d ∷ ds) = length-written (set cells d.0 d.1) ds ∙ length-set cells d.0 d.1
+use Rattle.proto_safety.proofs.SlotCells.{lapsed_leased, length-written}
 
 pub record SlotCells (count : ℕ) (slot : Slot) : Type 0 where
   pub cells : is_leased slot.lease ≡ true → length slot.cells ≡ count

@@ -23,7 +23,7 @@ use Rattle.proto_safety.proofs.SerialLists.{closing_in, epochs_in, journal_in, c
 use Rattle.proto_safety.proofs.SerialFronts.{front_stays, serial_parts}
 use Rattle.proto_safety.proofs.NumberSplits.{NumbersRise, up_to, below, at_number, past, below_next, split_at_number, up_to_next, number_of_all, up_to-push}
 use Rattle.proto_safety.proofs.FlowSerial.{ran, ran-push, MadeIn, EachMade, PutIs, put_writes, made-push}
-use Rattle.proto_safety.proofs.Lists.{nobody}
+use Rattle.proto_safety.proofs.Lists.{nobody, none_before}
 
 -- ---- what is known of the items
 
@@ -59,11 +59,7 @@ journal_never n es items key e k flow =
     (λ j i. let p = in_filter (is_in key e) items j i in let g = k.granted j p.0 (is_of_key key e j p.1).0 in let no : None ≡ Some g.0 = sym flow ∙ g.1.0 in cc)
 
 no_journal_made : (app : Application) (fed : List Fed) (key : Key) (front js : List Journaled) → js ≡ [] → EachMade app fed key front js
-no_journal_made app fed key front js none = record { at = λ pre j post is. absurd (never pre j post (sym none ∙ is)) }
-  where
-    never : (pre : List Journaled) (j : Journaled) (post : List Journaled) → [] ≡ pre ++ j ∷ post → ⊥
-    never [] j post is = cc
-    never (p ∷ ps) j post is = cc
+no_journal_made app fed key front js none = record { at = λ pre j post is. absurd (none_before pre post j (sym none ∙ is)) }
 
 flat_map_nil : {A B : Type 0} (f : A → List B) (xs : List A) → ((x : A) → In xs x → f x ≡ []) → flat_map f xs ≡ []
 flat_map_nil f [] h = refl

@@ -31,11 +31,11 @@ use Rattle.proto_safety.proofs.Ground.{known_of}
 use Rattle.proto_safety.proofs.GroundsKept.{Standing, LeasesHold, leases_kept}
 use Rattle.proto_safety.proofs.Handed.{Passed, HandedHold}
 use Rattle.proto_safety.proofs.HandedOn.{ClocksOn, SameBooks, handed_on}
-use Rattle.proto_safety.proofs.HandedStep.{stored_handed, none_before}
+use Rattle.proto_safety.proofs.HandedStep.{stored_handed}
 use Rattle.proto_safety.proofs.Induction.{Keeps, with_fed}
 use Rattle.proto_safety.proofs.LastBook.{advanced_at}
 use Rattle.proto_safety.proofs.LegalRun.{Laid, legal_by}
-use Rattle.proto_safety.proofs.Lists.{each_at}
+use Rattle.proto_safety.proofs.Lists.{each_at, none_before}
 use Rattle.proto_safety.proofs.Over.{over_late}
 use Rattle.proto_safety.proofs.Places.{at_set, at_changed}
 use Rattle.proto_safety.proofs.SlotFirsts.{NodeFirsts}

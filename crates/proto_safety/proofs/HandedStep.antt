@@ -30,7 +30,7 @@ use Rattle.proto_safety.proofs.FlowAlarm.{in_map}
 use Rattle.proto_safety.proofs.FlowBooks.{stands_flow, granted_in}
 use Rattle.proto_safety.proofs.Ground.{Ground, known_of}
 use Rattle.proto_safety.proofs.Handed.{GrantBy, as_first, as_own, as_other, as_sent, granted_by, Passed, RunOut, BookHanded, HandedHold, term_passed}
-use Rattle.proto_safety.proofs.Lists.{each_at}
+use Rattle.proto_safety.proofs.Lists.{each_at, none_before}
 use Rattle.proto_safety.proofs.Places.{at_set}
 use Rattle.proto_safety.proofs.StoreBooks.{Has, row_applies, by_forward}
 use Rattle.proto_safety.proofs.StoreStands.{book_after}
@@ -41,10 +41,6 @@ use Rattle.proto_safety.proofs.WorldFirsts.{FirstsHold}
 use Rattle.proto_safety.proofs.WorldFits.{NodeFits}
 use Rattle.proto_safety.proofs.WorldPuts.{Known}
 use Rattle.proto_safety.proofs.Induction.{Comes}
-
-pub none_before : {A : Type 0} (pre post : List A) (x : A) → [] ≡ pre ++ x ∷ post → ⊥
-none_before [] post x is = cc
-none_before (y ∷ ys) post x is = cc
 
 -- a member of a list with one more at its end is that one, or stood before
 abbrev LastOrFront : Entry → Entry → List Entry → List Entry → List Entry → Type 0

@@ -44,7 +44,7 @@ use Rattle.proto_data.specs.declared.terms.Mode.{Mode}
 use Rattle.proto_safety.proofs.WorldOrder.{OrderIn, order_kept}
 use Rattle.proto_safety.proofs.WorldOutputs.{OutputsRide, outputs_kept}
 use Rattle.proto_safety.proofs.WorldShown.{ShownFacts, ShownIn, shown_kept}
-use Rattle.proto_safety.proofs.HandedStep.{none_before}
+use Rattle.proto_safety.proofs.Lists.{none_before}
 
 -- what is kept of the first sendings is kept of some of them
 pub some_firsts : (app : Application) (I : World → Type 0) (J : List First → World → Type 0) → KeepsFirsts app I J → KeepsGiven app I (λ w. (fs : List First) × J fs w)

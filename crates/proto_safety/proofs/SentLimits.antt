@@ -1,5 +1,5 @@
 -- No step sends more than 64 messages.
-use Rattle.std.proofs.Common.{◌≡◌, ℕ, ◌+◌, ◌≤◌, List, [], ◌∷◌, length, Option, Some, None, arith, refl, true, false, Bool, length-append, length-take, take, nat_lt, map}
+use Rattle.std.proofs.Common.{◌≡◌, ℕ, ◌+◌, ◌≤◌, List, [], ◌∷◌, length, Option, Some, None, arith, refl, true, false, Bool, length-append, nat_lt, map}
 use Rattle.std.proofs.lemmas.Bool.{ltb-true}
 use Rattle.proto_data.specs.declared.message.Msg.{Msg}
 use Rattle.proto_data.specs.declared.terms.Mode.{Mode}
@@ -10,6 +10,7 @@ use Rattle.proto_model.specs.SwitchRow.{SwitchRow, Late, Resends}
 use Rattle.proto_model.specs.SwitchActs.{perform}
 use Rattle.proto_model.specs.SwitchAlarm.{alarm, Walk, strict_slot, snap_slot, held_slot, walked_slot, walked_key, walked_more, walked_slots, walk_order}
 use Rattle.std.proofs.lemmas.Grind.{common_steps}
+use Rattle.proto_safety.proofs.Lists.{length_take_le}
 
 -- at most one more message
 abbrev OneMore : Walk → Walk → Type 0
@@ -41,9 +42,6 @@ more_sends w now key false is h = h
 walk_sends : (now : ℕ) (keys : List Key) (w : Walk) → length w.sent ≤ 64 → length (walked_slots w now keys).sent ≤ 64
 walk_sends now [] w h = h
 walk_sends now (key ∷ keys) w h = walk_sends now keys _ (more_sends w now key (nat_lt (length w.sent) 64) refl h)
-
-length_take_le : (n : ℕ) (xs : List Msg) → length (take n xs) ≤ n
-length_take_le n xs = omega (arith, length-take n xs)
 
 alarm_sends : (s : Switch) (now : ℕ) → length (alarm s now).1.sent ≤ 64
 alarm_sends s now = walk_sends now (walk_order s.walked (map (λ (e : Key × Slot). e.0) s.slots)) _ (length_take_le 64 _)

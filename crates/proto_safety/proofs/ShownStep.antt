@@ -30,7 +30,7 @@ use Rattle.proto_safety.proofs.CellFacts.{CellFacts, CellsHold, closing_entries}
 use Rattle.proto_safety.proofs.CellsStep.{Brought, live_from, row_facts, before, made_direct, made_put}
 use Rattle.proto_safety.proofs.EpochNumbers.{Reaches, closing_reaches, number_epoch}
 use Rattle.proto_safety.proofs.FlowBooks.{in_last}
-use Rattle.proto_safety.proofs.FlowCellCount.{length-written}
+use Rattle.proto_safety.proofs.SlotCells.{length-written}
 use Rattle.proto_safety.proofs.FlowCopies.{not_strict}
 use Rattle.proto_safety.proofs.FlowMoves.{ready_held}
 use Rattle.proto_safety.proofs.FlowSerial.{ran, packs}

@@ -53,9 +53,9 @@ lapsed_whole n now slots h key slot at l =
     ap (λ (s : Slot). length s.cells) (sym m.2)
     ∙ h key m.0 m.1 (lapsed_leased now m.0.lease (ap (λ (s : Slot). is_leased s.lease) m.2 ∙ l))
 
-pub length_written : (delta : Delta) (cells : List ℕ) → length (written cells delta) ≡ length cells
-length_written [] cells = refl
-length_written (d ∷ ds) cells = length_written ds (set cells d.0 d.1) ∙ length-set cells d.0 d.1
+pub length-written : (cells : List ℕ) (delta : Delta) → length (written cells delta) ≡ length cells
+length-written cells [] = refl
+length-written cells (d ∷ ds) = length-written (set cells d.0 d.1) ds ∙ length-set cells d.0 d.1
 
 has_epoch_leased : (lease : Lease) (e : ℕ) → has_epoch lease e ≡ true → is_leased lease ≡ true
 has_epoch_leased Idle e h = absurd (false≢true h)
@@ -90,9 +90,9 @@ row_whole app s now (NewAsk key slot packet) f h = put_whole _ s.slots key _ (λ
 row_whole app s now (AskAgain key slot nonce packet) (ask_again of at is young) h = put_whole _ s.slots key _ (h key slot at) h
 row_whole app s now (Drops key slot mark cause) (no_copy_room r m full) h = put_whole _ s.slots key _ (λ l. ready_whole app s now h r) h
 row_whole app s now (Drops key slot mark cause) (too_old r m old) h = put_whole _ s.slots key _ (λ l. ready_whole app s now h r) h
-row_whole app s now (Direct key slot epoch mark delta out) (direct r m made clean none) h = put_whole _ s.slots key _ (λ l. length_written delta slot.cells ∙ ready_whole app s now h r) h
-row_whole app s now (Direct key slot epoch mark delta out) (snapped r m made young) h = put_whole _ s.slots key _ (λ l. length_written delta slot.cells ∙ ready_whole app s now h r) h
-row_whole app s now (Mirrored key slot epoch mark delta out) (mirrored r m made room dirty) h = put_whole _ s.slots key _ (λ l. length_written delta slot.cells ∙ ready_whole app s now h r) h
+row_whole app s now (Direct key slot epoch mark delta out) (direct r m made clean none) h = put_whole _ s.slots key _ (λ l. length-written slot.cells delta ∙ ready_whole app s now h r) h
+row_whole app s now (Direct key slot epoch mark delta out) (snapped r m made young) h = put_whole _ s.slots key _ (λ l. length-written slot.cells delta ∙ ready_whole app s now h r) h
+row_whole app s now (Mirrored key slot epoch mark delta out) (mirrored r m made room dirty) h = put_whole _ s.slots key _ (λ l. length-written slot.cells delta ∙ ready_whole app s now h r) h
 row_whole app s now (Granted key slot) (granted_only t none) h = put_whole _ s.slots key _ (λ l. eqb-true _ _ t.whole) h
 row_whole app s now (Late key slot mark) f h = put_whole _ s.slots key _ (λ l. absurd (false≢true l)) h
 row_whole app s now (Acked key slot upto load) (acked m i at e) h = put_whole _ s.slots key _ (λ l. h key slot at (has_epoch_leased slot.lease _ e)) h

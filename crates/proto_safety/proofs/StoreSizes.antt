@@ -23,7 +23,7 @@ use Rattle.proto_safety.specs.Sizes.{LoadSized, MarkSized, EntrySized, EchoedSiz
 use Rattle.proto_safety.proofs.Lists.{each_append, each_if, each_take, each_set}
 use Rattle.proto_safety.proofs.SizesUp.{replica_up}
 use Rattle.proto_safety.proofs.SizesOf.{each_put, each_get, last_is, successor_is, predecessor_is}
-use Rattle.proto_safety.proofs.FlowCellCount.{length-written}
+use Rattle.proto_safety.proofs.SlotCells.{length-written}
 use Rattle.proto_safety.proofs.StoreTable.{Taken, Asked, WasPut, IsGathered, itself, echo, itself_put, itself_snap, echo_put, lost, first_grant, own_grant, other_grant, busied, echoed_ask, denied, denied_snap, next_put, echoed_put, echoed_snap, gathered, next_snap, granted_again, acked_again, had, forwarded, committed, adopted, message_taken}
 
 each_drop : {A : Type 0} (P : A → Type 0) (k : ℕ) (xs : List A) → Each P xs → Each P (drop k xs)

@@ -41,7 +41,7 @@ use Rattle.proto_safety.proofs.CellsGround.{Based, based_kept}
 use Rattle.proto_safety.proofs.CellsStep.{no_snap}
 use Rattle.proto_safety.proofs.CopyRoom.{few_copies}
 use Rattle.proto_safety.proofs.FlowAlarm.{to_append}
-use Rattle.proto_safety.proofs.FlowCellCount.{length-written}
+use Rattle.proto_safety.proofs.SlotCells.{length-written}
 use Rattle.proto_safety.proofs.FlowInduction.{step_same}
 use Rattle.proto_safety.proofs.Induction.{run_kept}
 use Rattle.proto_safety.proofs.LegalRun.{opened_laid}

@@ -21,7 +21,7 @@ use Rattle.proto_safety.proofs.Lists.{each_append, each_filter}
 use Rattle.proto_safety.proofs.SizesUp.{slot_up, config_up, switch_up}
 use Rattle.proto_safety.proofs.SizesOf.{each_put, each_get, each_values, delta_few}
 use Rattle.proto_safety.proofs.AlarmSizes.{Sender, to_head_is, leased_epoch, alarm_sized}
-use Rattle.proto_safety.proofs.FlowCellCount.{length-written}
+use Rattle.proto_safety.proofs.SlotCells.{length-written}
 use Rattle.proto_safety.proofs.FlowMoves.{ready_held}
 use Rattle.proto_safety.proofs.SwitchTable.{Acts, Ready, fed, at_grant, at_grant_again, first_ask, ask_idle, ask_anew, ask_lapsed, ask_again, no_copy_room, direct, mirrored, snapped, too_old, granted_only, late, acked, round_done, denied, busied, adopted, row_acts}
 

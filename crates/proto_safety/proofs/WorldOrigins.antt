@@ -21,6 +21,7 @@ use Rattle.proto_safety.specs.Origins.{AskSent, ChunkSent, Origin, OnForward, Ca
 use Rattle.proto_safety.proofs.StoreTable.{Taken, first_grant, own_grant, other_grant, next_put, next_snap, forwarded}
 use Rattle.proto_safety.proofs.StoreBooks.{Has, row_applies, SentBooks}
 use Rattle.proto_safety.proofs.StoreStands.{book_after, entries_of-push}
+use Rattle.proto_safety.proofs.BookEpochs.{in_middle}
 use Rattle.proto_safety.proofs.BooksStep.{RowOf, of_message, of_alarm, of_packet, row_of, step_sent}
 use Rattle.proto_safety.proofs.FlowBooks.{in_front}
 use Rattle.proto_safety.proofs.FlowAlarm.{in_append}
@@ -120,11 +121,7 @@ after_origin w n s book now event input from old h g e i = applied_case (store_s
 
 -- what stands at a place is there
 at_in : (es : List Entry) (place : ℕ) (e : Entry) → EntryAt es place e → In es e
-at_in es place e h = subst (λ l. In l e) (sym h.is) (behind_in h.before h.behind e)
-  where
-    behind_in : (xs ys : List Entry) (e : Entry) → In (xs ++ e ∷ ys) e
-    behind_in [] ys e = inl refl
-    behind_in (x ∷ xs) ys e = inr (behind_in xs ys e)
+at_in es place e h = subst (λ l. In l e) (sym h.is) (in_middle h.before h.behind e)
 
 sent_origin : (frames : List Msg) (r : Replica) (es : List Entry) (m : Msg) → ((e : Entry) → In es e → Origin frames e) → SentBooks r es m.from m.to m.body → FrameOrigin frames m
 sent_origin frames r es m books s = record { from = no_request m.from m.to m.body s; entry = forwarded_of m.from m.to m.body s }

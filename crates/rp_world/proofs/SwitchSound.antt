@@ -23,7 +23,7 @@ use Rattle.rp_world.specs.OneEach.{IsForSwitch, IsRequest, IsRoutedTo, IsRouted,
 use Rattle.rp_world.specs.SoundRows.{IsSoundRow}
 use Rattle.proto_model.specs.Table.{put}
 use Rattle.rp_world.proofs.EachOf.{each_map, each_weaker, each_append, each_filter, each_put, each_get}
-use Rattle.proto_safety.proofs.FlowCellCount.{length-written}
+use Rattle.proto_safety.proofs.SlotCells.{length-written}
 
 module _ (count : ℕ) where
   abbrev IsSlot : ℕ → Slot → Type 0
