@@ -48,14 +48,8 @@ bytes_from bytes h i =
 pub one_spelling : (m : Msg) → IsMessage m → OneSpelling m
 one_spelling m h = record { again = all_again m h; only = λ bytes range e. (all_found bytes m (bytes_from bytes range) e).text }
 
-abbrev fine : Msg → Result Msg ℕ
-fine m = Ok m
-
-same_ok : (m n : Msg) → fine m ≡ fine n → m ≡ n
-same_ok m n e = cc
-
 pub one_message : (m n : Msg) → IsMessage m → IsMessage n → OneMessage m n
-one_message m n h k e = same_ok m n (sym (all_again m h) ∙ ap all_of e ∙ all_again n k)
+one_message m n h k e = ok_is m n (sym (all_again m h) ∙ ap all_of e ∙ all_again n k)
 
 pub no_prefix : (m n : Msg) → IsMessage m → IsMessage n → NoPrefix m n
 no_prefix m n h k rest e =
