@@ -33,6 +33,14 @@ record WalkSlot (n cells : ℕ) (mode : Mode) (copies : List Copy) (key : Key) (
   sized : SlotSized (n + 1) cells key slot
   last : (slot.last ≤ n) ⊎ Walked mode copies key slot
 
+-- one that wasn't walked has that of before
+unwalked_last : {n cells : ℕ} {mode : Mode} {copies : List Copy} {key : Key} {slot : Slot} → WalkSlot n cells mode copies key slot → (Walked mode copies key slot → ⊥) → slot.last ≤ n
+unwalked_last h none =
+    elim h.last [
+      | inl le ↦ le
+      | inr b ↦ absurd (none b)
+    ]
+
 -- what requests go by: the sender's number, incarnation and configuration
 pub record Sender (m : ℕ) (s : Switch) : Type 0 where
   pub me : s.me < 8
@@ -92,18 +100,10 @@ module _ (n cells : ℕ) (few : cells ≤ 256) (terms : Terms) (now : ℕ) where
 
   -- a slot that has no copy, or no round, has the last number of before
   no_copy_last : (w : Walk) (key : Key) (slot : Slot) → w.state.terms.mode ≡ Mode.Strict → has_copies w.state key ≡ false → WalkSlot n cells w.state.terms.mode w.state.copies key slot → slot.last ≤ n
-  no_copy_last w key slot mode none h = last_case h.last
-    where
-      last_case : (slot.last ≤ n) ⊎ Walked w.state.terms.mode w.state.copies key slot → slot.last ≤ n
-      last_case (inl le) = le
-      last_case (inr b) = absurd (both_ways (has_copies w.state key) none (b.0 mode))
+  no_copy_last w key slot mode none h = unwalked_last h (λ b. both_ways (has_copies w.state key) none (b.0 mode))
 
   no_round_last : (w : Walk) (key : Key) (slot : Slot) (bound : ℕ) → w.state.terms.mode ≡ Mode.Snapshot bound → slot.round ≡ None → WalkSlot n cells w.state.terms.mode w.state.copies key slot → slot.last ≤ n
-  no_round_last w key slot bound mode none h = last_case h.last
-    where
-      last_case : (slot.last ≤ n) ⊎ Walked w.state.terms.mode w.state.copies key slot → slot.last ≤ n
-      last_case (inl le) = le
-      last_case (inr b) = let is : is_some slot.round ≡ true = b.1 bound mode in absurd (both_ways (is_some slot.round) (rw none refl) is)
+  no_round_last w key slot bound mode none h = unwalked_last h (λ b. both_ways (is_some slot.round) (rw none refl) (b.1 bound mode))
 
   -- the modes differ
   two_modes : {A : Type 0} (m : Mode) (bound : ℕ) → m ≡ Mode.Strict → m ≡ Mode.Snapshot bound → A

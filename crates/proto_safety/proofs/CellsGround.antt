@@ -1,7 +1,7 @@
 -- What the cells rest on, from what is known of books, replies, requests, Puts and leases.
 use Rattle.std.proofs.Common.{◌≡◌, ℕ, ◌+◌, ◌≤◌, ◌<◌, List, [], ◌∷◌, ◌++◌, map, Option, Some, None, arith, refl, sym, ◌∙◌, ap, subst, true, false, Bool, inl, inr, slice_get, eqb-true}
-use Rattle.std.specs.Prelude.{if◌then◌else◌, nat_le}
-use Rattle.std.proofs.lemmas.Bool.{and_parts, both_ways, leb-true, leb-false}
+use Rattle.std.specs.Prelude.{if◌then◌else◌}
+use Rattle.std.proofs.lemmas.Bool.{and_parts, both_ways, cases_lt}
 use Rattle.std.proofs.lemmas.Grind.{fold-append}
 use Rattle.rp_base.specs.declared.node.Node.{Node}
 use Rattle.proto_data.specs.declared.message.Msg.{Msg}
@@ -200,29 +200,29 @@ module _ (app : Application) (w : World) (b : Based app w) (o : OverLate w) wher
   -- an epoch past a live slot's, or past that of a Grant that is taken in time, isn't committed
   live_epoch : (n nonce e expiry : ℕ) (key : Key) (node : SwitchNode) (slot : Slot) (f : Flow) → slice_get w.switches n ≡ Some node → node.runs ≡ true → slot_at node.state key ≡ Some slot → slot.lease ≡ Held nonce e expiry → node.clock < expiry →
       flow_of app.cell_count key es ≡ Some f → f.epoch ≤ e
-  live_epoch n nonce e expiry key node slot f at up found is live flow = le_case (nat_le f.epoch e) refl
-    where
-      le_case : (t : Bool) → nat_le f.epoch e ≡ t → f.epoch ≤ e
-      le_case true t = leb-true f.epoch e t
-      le_case false t =
-          let grant : In es (Entry.Grant key f.epoch f.switch f.inc f.nonce) = granted_in app.cell_count key es f flow in
-          let r = known.runner (Entry.Grant key f.epoch f.switch f.inc f.nonce) grant in
-          let ends : expiry ≤ node.clock = o.over r.0 n e f.epoch key r.1 node slot (Entry.Grant key f.epoch f.switch f.inc f.nonce) nonce expiry (record { at = r.2; up = r.3 }) r.4 (refl, refl) (leb-false f.epoch e t) (record { at = at; found = found }) is in
-          absurd (omega arith)
+  live_epoch n nonce e expiry key node slot f at up found is live flow =
+      elim (cases_lt e f.epoch) [
+        | inl above ↦
+            let grant : In es (Entry.Grant key f.epoch f.switch f.inc f.nonce) = granted_in app.cell_count key es f flow in
+            let r = known.runner (Entry.Grant key f.epoch f.switch f.inc f.nonce) grant in
+            let ends : expiry ≤ node.clock = o.over r.0 n e f.epoch key r.1 node slot (Entry.Grant key f.epoch f.switch f.inc f.nonce) nonce expiry (record { at = r.2; up = r.3 }) r.4 (refl, refl) above (record { at = at; found = found }) is in
+            absurd (omega arith)
+        | inr le ↦ le
+      ]
 
   asking_epoch : (n nonce since e : ℕ) (key : Key) (node : SwitchNode) (slot : Slot) (f : Flow) → slice_get w.switches n ≡ Some node → node.runs ≡ true → slot_at node.state key ≡ Some slot → slot.lease ≡ Asking nonce since → is_young node.state.terms.t_switch since node.clock ≡ true →
       In es (Entry.Grant key e n node.state.inc nonce) → flow_of app.cell_count key es ≡ Some f → f.epoch ≤ e
-  asking_epoch n nonce since e key node slot f at up found is young own flow = le_case (nat_le f.epoch e) refl
-    where
-      le_case : (t : Bool) → nat_le f.epoch e ≡ t → f.epoch ≤ e
-      le_case true t = leb-true f.epoch e t
-      le_case false t =
-          let grant : In es (Entry.Grant key f.epoch f.switch f.inc f.nonce) = granted_in app.cell_count key es f flow in
-          let r = known.runner (Entry.Grant key f.epoch f.switch f.inc f.nonce) grant in
-          let there : In (entries_of r.1.book) (Entry.Grant key e n node.state.inc nonce) = in_prefix es (entries_of r.1.book) _ (known.within r.0 r.1 r.2 r.3) own in
-          let old : is_young w.terms.t_switch since node.clock ≡ false =
-          o.late r.0 n e f.epoch key r.1 node slot (Entry.Grant key f.epoch f.switch f.inc f.nonce) nonce since (record { at = r.2; up = r.3 }) r.4 (refl, refl) (leb-false f.epoch e t) (record { at = at; found = found }) is there in
-          absurd (both_ways _ old (subst (λ x. is_young x.t_switch since node.clock ≡ true) (b.0.0.1.1.switches n node at) young))
+  asking_epoch n nonce since e key node slot f at up found is young own flow =
+      elim (cases_lt e f.epoch) [
+        | inl above ↦
+            let grant : In es (Entry.Grant key f.epoch f.switch f.inc f.nonce) = granted_in app.cell_count key es f flow in
+            let r = known.runner (Entry.Grant key f.epoch f.switch f.inc f.nonce) grant in
+            let there : In (entries_of r.1.book) (Entry.Grant key e n node.state.inc nonce) = in_prefix es (entries_of r.1.book) _ (known.within r.0 r.1 r.2 r.3) own in
+            let old : is_young w.terms.t_switch since node.clock ≡ false =
+            o.late r.0 n e f.epoch key r.1 node slot (Entry.Grant key f.epoch f.switch f.inc f.nonce) nonce since (record { at = r.2; up = r.3 }) r.4 (refl, refl) above (record { at = at; found = found }) is there in
+            absurd (both_ways _ old (subst (λ x. is_young x.t_switch since node.clock ≡ true) (b.0.0.1.1.switches n node at) young))
+        | inr le ↦ le
+      ]
 
   -- ---- a Grant that is taken in time
 

@@ -99,6 +99,10 @@ grant_number key e switch inc nonce = rw (same_key-refl key, eq-eqb e e refl) re
 other_grant_number : (key : Key) (e d switch inc nonce : ℕ) → e < d → number_in key d (Entry.Grant key e switch inc nonce) ≡ None
 other_grant_number key e d switch inc nonce lt = no_number key d (Entry.Grant key e switch inc nonce) (λ h. absurd (omega (arith, h.1)))
 
+-- the next number closes
+next_closing : (key : Key) (e l : ℕ) (x : Entry) (c : Option ℕ) → c ≡ Some l → number_in key e x ≡ Some (l + 1) → greater c (number_in key e x) ≡ Some (l + 1)
+next_closing key e l x c is k = let m : max l (l + 1) ≡ l + 1 = omega arith in rw (is, k) (ap Some m)
+
 closed_push : {n : ℕ} {key : Key} {o u : Option Flow} {x : Entry} (es : List Entry) → Stepped n key o x u → ClosedAt key es o → ClosedAt key (es ++ x ∷ []) u
 closed_push {key = key} {x = x} es (other ne) h =
     let number : (e : ℕ) → number_in key e x ≡ None = λ e. no_number key e x (λ k. both_ways _ ne (key_of_epoch key e x k)) in
@@ -146,9 +150,6 @@ closed_push {key = key} es (put {f = g} {delta = d}) h =
           rw (← e, ← l) (closing-push key g.epoch es x ∙ next_closing key g.epoch g.last x (closing_in key g.epoch es) (h.last g refl) (rw (same_key-refl key, eq-eqb g.epoch g.epoch refl) refl));
       later = λ f e is lt. let o : g.epoch ≡ f.epoch = cc in same_closing key e es x (no_number key e x (λ k. absurd (omega (arith, k.1)))) ∙ h.later g e refl (omega arith);
     }
-  where
-    next_closing : (key : Key) (e l : ℕ) (x : Entry) (c : Option ℕ) → c ≡ Some l → number_in key e x ≡ Some (l + 1) → greater c (number_in key e x) ≡ Some (l + 1)
-    next_closing key e l x c is k = let m : max l (l + 1) ≡ l + 1 = omega arith in rw (is, k) (ap Some m)
 closed_push {key = key} es (snap {f = g} {values = v}) h =
     let x : Entry = Entry.Snap key g.epoch (g.last + 1) v in
     record {
@@ -160,9 +161,6 @@ closed_push {key = key} es (snap {f = g} {values = v}) h =
           rw (← e, ← l) (closing-push key g.epoch es x ∙ next_closing key g.epoch g.last x (closing_in key g.epoch es) (h.last g refl) (rw (same_key-refl key, eq-eqb g.epoch g.epoch refl) refl));
       later = λ f e is lt. let o : g.epoch ≡ f.epoch = cc in same_closing key e es x (no_number key e x (λ k. absurd (omega (arith, k.1)))) ∙ h.later g e refl (omega arith);
     }
-  where
-    next_closing : (key : Key) (e l : ℕ) (x : Entry) (c : Option ℕ) → c ≡ Some l → number_in key e x ≡ Some (l + 1) → greater c (number_in key e x) ≡ Some (l + 1)
-    next_closing key e l x c is k = let m : max l (l + 1) ≡ l + 1 = omega arith in rw (is, k) (ap Some m)
 
 closed_from : (n : ℕ) (key : Key) (o : Option Flow) (es more : List Entry) → FitsFrom n key o more → ClosedAt key es o → ClosedAt key (es ++ more) (flow_from n key o more)
 closed_from n key o es [] fits h = rw (append-nil es) h

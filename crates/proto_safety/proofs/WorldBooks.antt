@@ -263,17 +263,14 @@ books_kept app = keeps_same app (BooksSince []) BooksHold (λ w h. since_some []
 
 -- ---- at the start
 
+open_is : (cells : ℕ) (setup : Setup) {node : ReplicaNode} (a b : ℕ) → b ≡ a → open_replica_node cells setup a ≡ node → open_replica_node cells setup b ≡ node
+open_is cells setup a b e h = rw e h
+
 nodes_from : (cells : ℕ) (setup : Setup) (k from n : ℕ) (node : ReplicaNode) → slice_get (map (open_replica_node cells setup) (range_with_len from k)) n ≡ Some node → (n < k) × (open_replica_node cells setup (from + n) ≡ node)
 nodes_from cells setup zero from n node at = cc
-nodes_from cells setup (suc k) from zero node at = (omega arith, open_is from (from + 0) (omega arith) cc)
-  where
-    open_is : (a b : ℕ) → b ≡ a → open_replica_node cells setup a ≡ node → open_replica_node cells setup b ≡ node
-    open_is a b e h = rw e h
+nodes_from cells setup (suc k) from zero node at = (omega arith, open_is cells setup from (from + 0) (omega arith) cc)
 nodes_from cells setup (suc k) from (suc n) node at =
-    let r = nodes_from cells setup k (from + 1) n node at in (omega (arith, r.0), open_is (from + 1 + n) (from + suc n) (omega arith) r.1)
-  where
-    open_is : (a b : ℕ) → b ≡ a → open_replica_node cells setup a ≡ node → open_replica_node cells setup b ≡ node
-    open_is a b e h = rw e h
+    let r = nodes_from cells setup k (from + 1) n node at in (omega (arith, r.0), open_is cells setup (from + 1 + n) (from + suc n) (omega arith) r.1)
 
 empty_book : (cells : ℕ) (setup : Setup) (ns : List ℕ) (a : ℕ) → book_of (map (open_replica_node cells setup) ns) a ≡ []
 empty_book cells setup [] a = refl
