@@ -1,6 +1,9 @@
 //! What reading knows of a piece of text beside its tree.
+//!
+//! What is moved from one reader to the next is boxed, so that nested readers take little of the stack.
 
 use p4_ast::{P4Block, P4Default, P4Entries, P4Expr, P4Name, P4Size, P4Stmt, P4Type};
+use sqlite_items::Boxed;
 
 /// How an expression was spelled, where that matters for what may follow it.
 #[derive(Debug, Drop)]
@@ -10,7 +13,7 @@ pub enum Mark {
     /// This name, a dot and the name `read`.
     Read(P4Name),
     /// A cast to this type of this name, a dot and the name `read`.
-    CastRead(P4Type, P4Name),
+    CastRead(Boxed<P4Type>, P4Name),
     /// Its end is a typedef's name in parentheses.
     Bare,
     Plain,
@@ -20,7 +23,7 @@ pub enum Mark {
 #[derive(Debug, Drop)]
 pub struct Spelled {
     pub at: u64,
-    pub expr: P4Expr,
+    pub expr: Boxed<P4Expr>,
     pub mark: Mark,
 }
 
@@ -30,9 +33,9 @@ pub enum Piece {
     /// `;`
     Empty { at: u64 },
     Block(P4Block),
-    Stmt { at: u64, stmt: P4Stmt },
+    Stmt { at: u64, stmt: Boxed<P4Stmt> },
     /// A statement that an `else` behind it would belong to.
-    Open { at: u64, stmt: P4Stmt },
+    Open { at: u64, stmt: Boxed<P4Stmt> },
 }
 
 /// The properties of a table that were read, each at most once.

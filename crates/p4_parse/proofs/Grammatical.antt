@@ -9,7 +9,7 @@ use Rattle.p4_ast.specs.declared.program.P4Program.{P4Program}
 use Rattle.p4_grammar.specs.Reading.{programs_of}
 use Rattle.p4_grammar.proofs.Programs.{program_sound, program_complete, program_fault}
 use Rattle.p4_grammar.proofs.Places.{program_refused}
-use Rattle.p4_read.specs.Counting.{deep}
+use Rattle.p4_part.specs.Counting.{deep}
 use Rattle.p4_parse.specs.declared.end.ParseEnd.{ParseEnd}
 use Rattle.p4_parse.specs.declared.end.ParseEnd.TheVariants as ends
 use Rattle.p4_parse.specs.Parsing.{Answers, parsed, of_tokens, deep_or, fault_of, read_of}

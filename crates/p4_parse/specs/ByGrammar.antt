@@ -7,7 +7,7 @@ use Rattle.p4_lex.specs.Lexing.{tokens}
 use Rattle.p4_ast.specs.declared.program.P4Program.{P4Program}
 use Rattle.p4_grammar.specs.Forms.{IsFault}
 use Rattle.p4_grammar.specs.Grammar.{program}
-use Rattle.p4_read.specs.Counting.{deep}
+use Rattle.p4_part.specs.Counting.{deep}
 use Rattle.p4_parse.specs.declared.end.ParseEnd.{ParseEnd}
 use Rattle.p4_parse.specs.declared.end.ParseEnd.TheVariants as ends
 use Rattle.p4_parse.specs.Parsing.{fault_of}

@@ -12,8 +12,8 @@ use Rattle.p4_grammar.specs.Tokens.{name, number, one_of}
 use Rattle.p4_grammar.specs.Reading.{programs_of}
 use Rattle.p4_parse.specs.declared.end.ParseEnd.{ParseEnd}
 use Rattle.p4_parse.specs.declared.end.ParseEnd.TheVariants as ends
-use Rattle.p4_read.specs.Counting.{deep}
-use Rattle.p4_read.specs.Operators.{is_binary}
+use Rattle.p4_part.specs.Counting.{deep}
+use Rattle.p4_part.specs.Operators.{is_binary}
 
 -- whether a token ends an operand: a name, a number, `true`, `false`, `)` or `]`
 abbrev pub ends_value : Token → Bool

@@ -4,12 +4,12 @@ ghost use Rattle.p4_parse.specs.ByGrammar.{ByGrammar};
 ghost use Rattle.p4_parse.specs.Parsing.{Answers, ends_value as ends_value_of, before as before_of, mixed as mixed_of, fault_of as fault_is, tree_of as tree_is, parsed};
 
 use crate::end::ParseEnd;
-use crate::program::program;
 use p4_ast::Tree;
 use p4_lex::{LexEnd, Sign, Token, Tokens};
-use p4_read::deep::deep;
-use p4_read::operator::is_binary;
-use p4_read::token::{is_sign, is_value};
+use p4_part::deep::deep;
+use p4_part::operator::is_binary;
+use p4_part::token::{is_sign, is_value};
+use p4_program::program::program;
 use rp_base::{Refused, Why};
 use std::alloc::Global;
 

@@ -1,7 +1,4 @@
-pub mod Made
 pub mod Keysets
 pub mod Conditions
 pub mod Statements
 pub mod Tables
-pub mod Counting
-pub mod Operators

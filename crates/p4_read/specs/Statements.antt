@@ -16,7 +16,7 @@ use Rattle.p4_grammar.specs.Trees.{alone, apply_piece, call_piece}
 use Rattle.p4_grammar.specs.ReadingExpressions.{names_at, args_at}
 use Rattle.p4_grammar.specs.ReadingStatements.{or_valid_at, assign_at, path_led_at}
 use Rattle.p4_grammar.specs.Reading.{or_extract_at, state_assign_at}
-use Rattle.p4_read.specs.Made.{called_in}
+use Rattle.p4_part.specs.Made.{called_in}
 use Rattle.std.specs.Prelude.{codes}
 
 -- the end of an assignment

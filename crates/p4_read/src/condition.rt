@@ -4,18 +4,18 @@
 ghost use Rattle.std.specs.Prelude.{◌≡◌};
 ghost use Rattle.p4_grammar.specs.Forms.{Gives};
 ghost use Rattle.p4_grammar.specs.ReadingStatements.{outcome_at, applied_at, negated_value as negated_value_of, cond_rest_at, place_or as place_or_of, cond_named_at, cond_at};
-ghost use Rattle.p4_read.specs.Made.{Makes};
+ghost use Rattle.p4_part.specs.Made.{Makes};
 ghost use Rattle.p4_read.specs.Conditions.{cond_path_at, negated_at};
 
 use crate::expression::{behind_of, expr_of, named_of, unary_of};
-use crate::name::names_of;
-use crate::part::joined;
-use crate::token::{Reading, called_of, is_called_next, is_name_next, is_next, name_of, sign_of};
-use crate::typedefs::Typedefs;
-use crate::value::{Made, unary_value};
 use p4_ast::{P4Cond, P4Name, P4Outcome, P4UnaryOp};
 use p4_grammar::Spelled;
 use p4_lex::{Sign, Token};
+use p4_part::list::joined;
+use p4_part::name::names_of;
+use p4_part::token::{Reading, called_of, is_called_next, is_name_next, is_next, name_of, sign_of};
+use p4_part::typedefs::Typedefs;
+use p4_part::value::{Made, unary_value};
 use sqlite_items::Items;
 use std::alloc::Global;
 
@@ -82,7 +82,7 @@ fn cond_rest_of<'a>(
 {
     let x = negated_value(alloc, not, x)?;
     let (value, rest) = behind_of(alloc, fuel, env, x, tokens)?;
-    Ok((P4Cond::Expr(value.expr), rest))
+    Ok((P4Cond::Expr(value.expr.into_inner()), rest))
 }
 
 // Behind a name and a dot, where no table is applied.
@@ -163,5 +163,5 @@ pub fn cond_of<'a>(
         return cond_named_of(alloc, fuel, env, None, first, rest);
     }
     let (value, rest) = expr_of(alloc, fuel, env, tokens)?;
-    Ok((P4Cond::Expr(value.expr), rest))
+    Ok((P4Cond::Expr(value.expr.into_inner()), rest))
 }

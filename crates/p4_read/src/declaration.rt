@@ -4,16 +4,17 @@ ghost use Rattle.p4_grammar.specs.Forms.{Gives, hand};
 ghost use Rattle.p4_grammar.specs.Values.{known};
 ghost use Rattle.p4_grammar.specs.ReadingExpressions.{expressions_at, args_at};
 ghost use Rattle.p4_grammar.specs.Reading.{fields_at, header_at, struct_at, typedef_at, const_at, declaration_at, begins_declaration};
-ghost use Rattle.p4_read.specs.Made.{Makes};
+ghost use Rattle.p4_part.specs.Made.{Makes};
 
 use crate::expression::expr_of;
-use crate::name::{place_of_type, type_of};
-use crate::part::{Part, joined, parts_behind, parts_until};
-use crate::token::{Reading, is_next, name_of, sign_of};
-use crate::typedefs::Typedefs;
-use crate::value::Made;
+use crate::part::{Part, parts_behind, parts_until};
 use p4_ast::{P4Const, P4Declaration, P4Expr, P4Field, P4Header, P4Struct, P4Typedef};
 use p4_lex::{Sign, Token};
+use p4_part::list::joined;
+use p4_part::name::{place_of_type, type_of};
+use p4_part::token::{Reading, is_next, name_of, sign_of};
+use p4_part::typedefs::Typedefs;
+use p4_part::value::Made;
 use sqlite_items::Items;
 use std::alloc::Global;
 
@@ -30,7 +31,7 @@ impl Part for P4Expr {
         tokens: &'a [Token],
     ) -> Reading<'a, P4Expr> {
         let (value, rest) = expr_of(alloc, fuel, env, tokens)?;
-        Ok((value.expr, rest))
+        Ok((value.expr.into_inner(), rest))
     }
 }
 

@@ -4,37 +4,27 @@ ghost use Rattle.p4_grammar.specs.Forms.{Gives, chain_at, bind_at, done_at};
 ghost use Rattle.p4_grammar.specs.Tokens.{words_at};
 ghost use Rattle.p4_lex.specs.declared.token.Sign.TheVariants as sign;
 ghost use Rattle.p4_grammar.specs.Values.{this, binary as binary_is, choice_value as choice_value_of};
-ghost use Rattle.p4_grammar.specs.declared.mark.Mark.TheVariants as mark;
 ghost use Rattle.p4_ast.specs.declared.expression.P4BinaryOp.TheVariants as binary_op;
 ghost use Rattle.p4_grammar.specs.ReadingExpressions.{sliced_at, named_at, plain_at, parens_at, cast_at, closed_at, open_at, unary_of_at, sum_rest_at, sum_at, compared_at, same_op_at, compare_rest_at, compare_at, and_rest_at, and_at, or_rest_at, choice_at, expr_rest_at, unary_at, expr_at, behind_at, expression_at};
-ghost use Rattle.p4_read.specs.Made.{called_in};
 
-use crate::name::{is_type_next, names_of, slice_of, type_named, word_type_of};
-use crate::operator::{
-    chain_op_of, compare_op_of, is_chain_next, is_compare_next, is_operand_next, is_sum_next,
-    is_this_next, is_unary_next, sum_op_of, this_of, unary_op_of,
-};
-use crate::part::joined;
-use crate::token::{Reading, is_name_next, is_next, name_of, number_of, sign_of};
-use crate::typedefs::Typedefs;
-use crate::value::{
-    binary, cast_name, cast_value, choice_value, ends_in, path_value, slice_value, unary_value,
-    valid_value,
-};
 use p4_ast::{P4BinaryOp, P4Expr, P4Name, P4Type};
 use p4_grammar::{Mark, Spelled};
 use p4_lex::{Sign, Token};
-use sqlite_items::Items;
+use p4_part::list::joined;
+use p4_part::name::{is_type_next, names_of, slice_of, type_named, word_type_of};
+use p4_part::operator::{
+    chain_op_of, compare_op_of, is_chain_next, is_compare_next, is_operand_next, is_sum_next,
+    is_this_next, is_unary_next, sum_op_of, this_of, unary_op_of,
+};
+use p4_part::path::front_of;
+use p4_part::token::{Reading, is_name_next, is_next, name_of, number_of, sign_of};
+use p4_part::typedefs::Typedefs;
+use p4_part::value::{
+    binary, cast_name, cast_value, choice_value, ends_in, path_value, plain, slice_value,
+    unary_value, valid_value,
+};
+use sqlite_items::{Boxed, Items};
 use std::alloc::Global;
-
-/// The names before the last one.
-pub fn front_of(names: Items<P4Name>) -> Items<P4Name>
-    ensures { (text : _) (front : _) → called_in text names ≡ Some front → result ≡ front }
-{
-    let mut front = names;
-    let _ = front.pop();
-    front
-}
 
 // A value, sliced or not.
 #[tactic(auto, unfolding(p4_grammar::specs::ReadingExpressions::sliced_at))]
@@ -63,9 +53,10 @@ pub fn named_of<'a>(
     if ends_in(b"isValid", names.as_slice()) && is_next(Sign::Open, tokens) {
         let (_, rest) = sign_of(Sign::Open, tokens)?;
         let (_, rest) = sign_of(Sign::Close, rest)?;
-        return sliced_of(alloc, valid_value(front_of(names)), rest);
+        let value = valid_value(alloc, front_of(names))?;
+        return sliced_of(alloc, value, rest);
     }
-    let value = path_value(names)?;
+    let value = path_value(alloc, names)?;
     sliced_of(alloc, value, tokens)
 }
 
@@ -76,25 +67,18 @@ fn plain_of<'a>(alloc: Global, tokens: &'a [Token]) -> Reading<'a, Spelled>
 {
     if is_next(Sign::True, tokens) {
         let (at, rest) = sign_of(Sign::True, tokens)?;
-        return sliced_of(alloc, plain(at, P4Expr::True { at }), rest);
+        let value = plain(alloc, at, P4Expr::True { at })?;
+        return sliced_of(alloc, value, rest);
     }
     if is_next(Sign::False, tokens) {
         let (at, rest) = sign_of(Sign::False, tokens)?;
-        return sliced_of(alloc, plain(at, P4Expr::False { at }), rest);
+        let value = plain(alloc, at, P4Expr::False { at })?;
+        return sliced_of(alloc, value, rest);
     }
     let (number, rest) = number_of(tokens)?;
     let at = number.at;
-    sliced_of(alloc, plain(at, P4Expr::Number { at, number }), rest)
-}
-
-fn plain(at: u64, expr: P4Expr) -> Spelled
-    ensures { result ≡ record { at = at; expr = expr; mark = mark.Plain } }
-{
-    Spelled {
-        at,
-        expr,
-        mark: Mark::Plain,
-    }
+    let value = plain(alloc, at, P4Expr::Number { at, number })?;
+    sliced_of(alloc, value, rest)
 }
 
 /// What stands behind an expression in parentheses: the operand of a cast, where they hold a typedef's name.
@@ -106,13 +90,20 @@ pub fn parens_of<'a>(
     env: &Typedefs,
     at: u64,
     name: Option<P4Name>,
-    expr: P4Expr,
+    expr: Boxed<P4Expr>,
     tokens: &'a [Token],
 ) -> Reading<'a, Spelled>
     ensures { Gives (λ x. (x.0, x.1.now)) (λ e. e.now) result (parens_at at name (unary_at fuel env.now) expr tokens.now) }
 {
     match name {
-        None => sliced_of(alloc, plain(at, expr), tokens),
+        None => {
+            let value = Spelled {
+                at,
+                expr,
+                mark: Mark::Plain,
+            };
+            sliced_of(alloc, value, tokens)
+        }
         Some(name) => {
             if is_operand_next(tokens) {
                 let (operand, rest) = unary_of(alloc, fuel, env, tokens)?;

@@ -6,14 +6,15 @@ ghost use Rattle.p4_read.specs.Keysets.{tuple_end_at, masked_tuple_at, cast_keys
 ghost use Rattle.p4_grammar.specs.Reading.{any_at, masked_at, tuple_rest_at, one_behind_at, grouped_at, open_keyset_at, keyset_at};
 
 use crate::expression::{behind_of, expr_of, parens_of, unary_of};
-use crate::name::{is_type_next, word_type_of};
-use crate::part::{Part, pair, parts_behind};
-use crate::token::{Reading, is_next, sign_of};
-use crate::typedefs::Typedefs;
-use crate::value::{cast_name, cast_value};
+use crate::part::{Part, parts_behind};
 use p4_ast::{P4Expr, P4Keyset, P4One};
 use p4_grammar::Spelled;
 use p4_lex::{Sign, Token};
+use p4_part::list::pair;
+use p4_part::name::{is_type_next, word_type_of};
+use p4_part::token::{Reading, is_next, sign_of};
+use p4_part::typedefs::Typedefs;
+use p4_part::value::{cast_name, cast_value};
 use sqlite_items::Items;
 use std::alloc::Global;
 
@@ -29,6 +30,7 @@ fn masked_of<'a>(
     ensures { Gives (λ x. (x.0, x.1.now)) (λ e. e.now) result (masked_at fuel env.now x tokens.now) }
 {
     let Spelled { at, expr, mark: _ } = x;
+    let expr = expr.into_inner();
     if is_next(Sign::Mask, tokens) {
         let (_, rest) = sign_of(Sign::Mask, tokens)?;
         let (mask, rest) = P4Expr::read(alloc, fuel, env, rest)?;
@@ -141,7 +143,7 @@ fn masked_tuple_of<'a>(
     } = x;
     let first = P4One::Expr {
         at: place,
-        expr,
+        expr: expr.into_inner(),
         mask: Some(mask),
     };
     tuple_rest_of(alloc, fuel, env, at, first, rest)
@@ -170,7 +172,7 @@ fn grouped_of<'a>(
     if is_next(Sign::Comma, tokens) {
         let first = P4One::Expr {
             at: place,
-            expr,
+            expr: expr.into_inner(),
             mask: None,
         };
         return tuple_rest_of(alloc, fuel, env, at, first, tokens);

@@ -6,16 +6,17 @@ ghost use Rattle.p4_read.specs.Statements.{step_behind_at};
 
 use crate::declaration::expressions_of;
 use crate::keyset::{keyset_of, keyset_place};
-use crate::name::names_of;
-use crate::part::{Part, joined, parts_until};
-use crate::path::{dotted_of, is_only, left_of, slice_or_none_of};
-use crate::token::{Reading, is_next, name_of, sign_of};
-use crate::typedefs::Typedefs;
-use crate::value::{path_of, place_of};
+use crate::part::{Part, parts_until};
 use p4_ast::{
     P4Assign, P4Case, P4Expr, P4Extract, P4Name, P4Param, P4Parser, P4State, P4Step, P4Target,
 };
 use p4_lex::{Sign, Token};
+use p4_part::list::joined;
+use p4_part::name::names_of;
+use p4_part::path::{dotted_of, is_only, left_of, slice_or_none_of};
+use p4_part::token::{Reading, is_next, name_of, sign_of};
+use p4_part::typedefs::Typedefs;
+use p4_part::value::{path_of, place_of};
 use sqlite_items::Items;
 use std::alloc::Global;
 

@@ -2,13 +2,11 @@
 ghost use Rattle.std.specs.Prelude.{◌≡◌, ◌∷◌, []};
 ghost use Rattle.p4_grammar.specs.Forms.{Gives, many_at};
 ghost use Rattle.p4_grammar.specs.Tokens.{but, in_hand, words_at};
-ghost use Rattle.p4_read.specs.Made.{Makes};
 ghost use Rattle.p4_lex.specs.declared.token.Sign.TheVariants as sign;
 
-use crate::token::{Reading, is_next, is_other_next, sign_of};
-use crate::typedefs::Typedefs;
-use crate::value::Made;
 use p4_lex::{Sign, Token};
+use p4_part::token::{Reading, is_next, is_other_next, sign_of};
+use p4_part::typedefs::Typedefs;
 use sqlite_items::Items;
 use std::alloc::Global;
 
@@ -95,32 +93,4 @@ pub fn parts_behind<'a, T: Part>(
         rest = after;
     }
     Err(Some(rest))
-}
-
-/// A list of one and more.
-pub fn joined<'a, T: Drop>(alloc: Global, first: T, more: Items<T>) -> Made<'a, Items<T>>
-    ensures { Makes result (first ∷ more) }
-{
-    let mut parts = Items::new(alloc);
-    if parts.push(first).is_err() {
-        return Err(None);
-    }
-    if parts.append(more).is_err() {
-        return Err(None);
-    }
-    Ok(parts)
-}
-
-/// A list of two.
-pub fn pair<'a, T: Drop>(alloc: Global, first: T, second: T) -> Made<'a, Items<T>>
-    ensures { Makes result (first ∷ second ∷ []) }
-{
-    let mut parts = Items::new(alloc);
-    if parts.push(first).is_err() {
-        return Err(None);
-    }
-    if parts.push(second).is_err() {
-        return Err(None);
-    }
-    Ok(parts)
 }

@@ -3,25 +3,28 @@
 //! Functions within which no statement is read are kept out of line, so that nested statements take less of the stack.
 ghost use Rattle.std.specs.Prelude.{◌≡◌};
 ghost use Rattle.p4_grammar.specs.Forms.{Gives, bind_at, done_at};
+ghost use Rattle.p4_part.specs.Made.{Makes};
 ghost use Rattle.p4_grammar.specs.ReadingExpressions.{type_at, word_type_at};
 ghost use Rattle.p4_grammar.specs.Trees.{read_piece as read_piece_of, write_piece as write_piece_of};
 ghost use Rattle.p4_grammar.specs.ReadingStatements.{var_at, var_rest_at, var_piece as var_piece_of, read_rest_at, assign_end_at, assign_at, write_rest_at, valid_rest_at, path_led_at, name_led_at, key_at};
 ghost use Rattle.p4_read.specs.Statements.{assigned_expr_at, called_or_assign_at, applied_stmt_at, dot_led_at, call_stmt_at};
 
 use crate::declaration::args_of;
-use crate::expression::{expr_of, front_of};
-use crate::name::{names_of, place_of_type, type_named, type_of, word_type_of};
-use crate::part::{Part, joined};
-use crate::path::{is_only, left_of, slice_or_none_of};
-use crate::token::{Reading, is_name_next, is_next, name_of, sign_of};
-use crate::typedefs::Typedefs;
-use crate::value::{ends_in, path_of, place_of};
+use crate::expression::expr_of;
+use crate::part::Part;
 use p4_ast::{
     P4Apply, P4Assign, P4Callstmt, P4Expr, P4Keystmt, P4Left, P4Name, P4Read, P4Stmt, P4Type,
     P4Valid, P4Validity, P4Var, P4Write,
 };
 use p4_grammar::{Mark, Piece, Spelled};
 use p4_lex::{Sign, Token};
+use p4_part::list::joined;
+use p4_part::name::{names_of, place_of_type, type_named, type_of, word_type_of};
+use p4_part::path::{front_of, is_only, left_of, slice_or_none_of};
+use p4_part::piece::stmt_piece;
+use p4_part::token::{Reading, is_name_next, is_next, name_of, sign_of};
+use p4_part::typedefs::Typedefs;
+use p4_part::value::{Made, ends_in, path_of, place_of};
 use sqlite_items::Items;
 use std::alloc::Global;
 
@@ -66,13 +69,10 @@ pub fn var_rest_of<'a>(
     ))
 }
 
-fn var_piece(var: P4Var) -> Piece
-    ensures { result ≡ var_piece_of var }
+fn var_piece<'a>(alloc: Global, var: P4Var) -> Made<'a, Piece>
+    ensures { Makes result (var_piece_of var) }
 {
-    Piece::Stmt {
-        at: var.at,
-        stmt: P4Stmt::Var(var),
-    }
+    stmt_piece(alloc, var.at, P4Stmt::Var(var))
 }
 
 /// Reads a variable.
@@ -106,11 +106,18 @@ pub fn word_var_of<'a>(
     let (name, rest) = name_of(rest)?;
     let at = place_of_type(&type_);
     let (var, rest) = var_rest_of(alloc, fuel, env, at, type_, name, rest)?;
-    Ok((var_piece(var), rest))
+    let piece = var_piece(alloc, var)?;
+    Ok((piece, rest))
 }
 
-fn read_piece(left: P4Left, type_: Option<P4Type>, name: P4Name, expr: Option<P4Expr>) -> Piece
-    ensures { result ≡ read_piece_of left type_ name expr }
+fn read_piece<'a>(
+    alloc: Global,
+    left: P4Left,
+    type_: Option<P4Type>,
+    name: P4Name,
+    expr: Option<P4Expr>,
+) -> Made<'a, Piece>
+    ensures { Makes result (read_piece_of left type_ name expr) }
 {
     let at = left.at;
     let stmt = P4Stmt::Read(P4Read {
@@ -120,7 +127,7 @@ fn read_piece(left: P4Left, type_: Option<P4Type>, name: P4Name, expr: Option<P4
         name,
         expr,
     });
-    Piece::Stmt { at, stmt }
+    stmt_piece(alloc, at, stmt)
 }
 
 // A read behind the name of its cell, a dot and `read`.
@@ -140,22 +147,29 @@ fn read_rest_of<'a>(
     if is_next(Sign::Close, rest) {
         let (_, rest) = sign_of(Sign::Close, rest)?;
         let (_, rest) = sign_of(Sign::Semicolon, rest)?;
-        return Ok((read_piece(left, type_, name, None), rest));
+        let piece = read_piece(alloc, left, type_, name, None)?;
+        return Ok((piece, rest));
     }
     let (index, rest) = P4Expr::read(alloc, fuel, env, rest)?;
     let (_, rest) = sign_of(Sign::Close, rest)?;
     let (_, rest) = sign_of(Sign::Semicolon, rest)?;
-    Ok((read_piece(left, type_, name, Some(index)), rest))
+    let piece = read_piece(alloc, left, type_, name, Some(index))?;
+    Ok((piece, rest))
 }
 
 // The end of an assignment.
-fn assigned_of<'a>(left: P4Left, expr: P4Expr, tokens: &'a [Token]) -> Reading<'a, Piece>
+fn assigned_of<'a>(
+    alloc: Global,
+    left: P4Left,
+    expr: P4Expr,
+    tokens: &'a [Token],
+) -> Reading<'a, Piece>
     ensures { Gives (λ x. (x.0, x.1.now)) (λ e. e.now) result (assigned_expr_at left expr tokens.now) }
 {
     let (_, rest) = sign_of(Sign::Semicolon, tokens)?;
     let at = left.at;
-    let stmt = P4Stmt::Assign(P4Assign { at, left, expr });
-    Ok((Piece::Stmt { at, stmt }, rest))
+    let piece = stmt_piece(alloc, at, P4Stmt::Assign(P4Assign { at, left, expr }))?;
+    Ok((piece, rest))
 }
 
 // Behind the expression: only a read of a cell, cast or not, may be read instead.
@@ -171,22 +185,31 @@ fn assign_end_of<'a>(
     ensures { Gives (λ x. (x.0, x.1.now)) (λ e. e.now) result (assign_end_at fuel env.now left x x.mark tokens.now) }
 {
     let Spelled { at: _, expr, mark } = x;
+    let expr = expr.into_inner();
     match mark {
         Mark::Read(name) => {
             if is_next(Sign::Open, tokens) {
                 return read_rest_of(alloc, fuel, env, left, None, name, tokens);
             }
-            assigned_of(left, expr, tokens)
+            assigned_of(alloc, left, expr, tokens)
         }
         Mark::CastRead(type_, name) => {
             if is_next(Sign::Open, tokens) {
-                return read_rest_of(alloc, fuel, env, left, Some(type_), name, tokens);
+                return read_rest_of(
+                    alloc,
+                    fuel,
+                    env,
+                    left,
+                    Some(type_.into_inner()),
+                    name,
+                    tokens,
+                );
             }
-            assigned_of(left, expr, tokens)
+            assigned_of(alloc, left, expr, tokens)
         }
-        Mark::One(_) => assigned_of(left, expr, tokens),
-        Mark::Bare => assigned_of(left, expr, tokens),
-        Mark::Plain => assigned_of(left, expr, tokens),
+        Mark::One(_) => assigned_of(alloc, left, expr, tokens),
+        Mark::Bare => assigned_of(alloc, left, expr, tokens),
+        Mark::Plain => assigned_of(alloc, left, expr, tokens),
     }
 }
 
@@ -207,8 +230,13 @@ fn assign_of<'a>(
     assign_end_of(alloc, fuel, env, left_of(names, slice), x, rest)
 }
 
-fn write_piece(name: P4Name, expr: P4Expr, second: Option<P4Expr>) -> Piece
-    ensures { result ≡ write_piece_of name expr second }
+fn write_piece<'a>(
+    alloc: Global,
+    name: P4Name,
+    expr: P4Expr,
+    second: Option<P4Expr>,
+) -> Made<'a, Piece>
+    ensures { Makes result (write_piece_of name expr second) }
 {
     let at = name.at;
     let stmt = P4Stmt::Write(P4Write {
@@ -217,7 +245,7 @@ fn write_piece(name: P4Name, expr: P4Expr, second: Option<P4Expr>) -> Piece
         expr,
         second,
     });
-    Piece::Stmt { at, stmt }
+    stmt_piece(alloc, at, stmt)
 }
 
 // A write behind the name of its cell, a dot and `write`.
@@ -238,15 +266,18 @@ fn write_rest_of<'a>(
         let (second, rest) = P4Expr::read(alloc, fuel, env, rest)?;
         let (_, rest) = sign_of(Sign::Close, rest)?;
         let (_, rest) = sign_of(Sign::Semicolon, rest)?;
-        return Ok((write_piece(name, expr, Some(second)), rest));
+        let piece = write_piece(alloc, name, expr, Some(second))?;
+        return Ok((piece, rest));
     }
     let (_, rest) = sign_of(Sign::Close, rest)?;
     let (_, rest) = sign_of(Sign::Semicolon, rest)?;
-    Ok((write_piece(name, expr, None), rest))
+    let piece = write_piece(alloc, name, expr, None)?;
+    Ok((piece, rest))
 }
 
 #[tactic(auto, unfolding(p4_grammar::specs::ReadingStatements::valid_rest_at))]
 fn valid_rest_of<'a>(
+    alloc: Global,
     names: Items<P4Name>,
     validity: P4Validity,
     tokens: &'a [Token],
@@ -258,8 +289,8 @@ fn valid_rest_of<'a>(
     let (_, rest) = sign_of(Sign::Semicolon, rest)?;
     let at = place_of(names.as_slice());
     let path = path_of(names);
-    let stmt = P4Stmt::Valid(P4Valid { at, path, validity });
-    Ok((Piece::Stmt { at, stmt }, rest))
+    let piece = stmt_piece(alloc, at, P4Stmt::Valid(P4Valid { at, path, validity }))?;
+    Ok((piece, rest))
 }
 
 // Behind a path that isn't a cell's and `write`.
@@ -275,10 +306,10 @@ fn called_or_assign_of<'a>(
 {
     if is_next(Sign::Open, tokens) {
         if ends_in(b"setValid", names.as_slice()) {
-            return valid_rest_of(front_of(names), P4Validity::SetValid, tokens);
+            return valid_rest_of(alloc, front_of(names), P4Validity::SetValid, tokens);
         }
         if ends_in(b"setInvalid", names.as_slice()) {
-            return valid_rest_of(front_of(names), P4Validity::SetInvalid, tokens);
+            return valid_rest_of(alloc, front_of(names), P4Validity::SetInvalid, tokens);
         }
     }
     assign_of(alloc, fuel, env, names, tokens)
@@ -304,7 +335,7 @@ fn path_led_of<'a>(
 }
 
 // Behind the name of a table and a dot.
-fn applied_of<'a>(first: P4Name, tokens: &'a [Token]) -> Reading<'a, Piece>
+fn applied_of<'a>(alloc: Global, first: P4Name, tokens: &'a [Token]) -> Reading<'a, Piece>
     ensures { Gives (λ x. (x.0, x.1.now)) (λ e. e.now) result (applied_stmt_at first tokens.now) }
 {
     let (_, rest) = sign_of(Sign::Apply, tokens)?;
@@ -312,8 +343,8 @@ fn applied_of<'a>(first: P4Name, tokens: &'a [Token]) -> Reading<'a, Piece>
     let (_, rest) = sign_of(Sign::Close, rest)?;
     let (_, rest) = sign_of(Sign::Semicolon, rest)?;
     let at = first.at;
-    let stmt = P4Stmt::Apply(P4Apply { at, name: first });
-    Ok((Piece::Stmt { at, stmt }, rest))
+    let piece = stmt_piece(alloc, at, P4Stmt::Apply(P4Apply { at, name: first }))?;
+    Ok((piece, rest))
 }
 
 // Behind a name, where a dot follows.
@@ -328,7 +359,7 @@ fn dot_led_of<'a>(
 {
     let (_, rest) = sign_of(Sign::Dot, tokens)?;
     if is_next(Sign::Apply, rest) {
-        return applied_of(first, rest);
+        return applied_of(alloc, first, rest);
     }
     let (second, rest) = name_of(rest)?;
     let (more, rest) = names_of(alloc, fuel, rest)?;
@@ -354,7 +385,8 @@ fn call_of<'a>(
         name: first,
         args,
     });
-    Ok((Piece::Stmt { at, stmt }, rest))
+    let piece = stmt_piece(alloc, at, stmt)?;
+    Ok((piece, rest))
 }
 
 /// Reads a statement behind its first name.
@@ -373,7 +405,8 @@ pub fn name_led_of<'a>(
         let (name, rest) = name_of(tokens)?;
         let at = first.at;
         let (var, rest) = var_rest_of(alloc, fuel, env, at, type_named(first), name, rest)?;
-        return Ok((var_piece(var), rest));
+        let piece = var_piece(alloc, var)?;
+        return Ok((piece, rest));
     }
     if is_next(Sign::Open, tokens) {
         return call_of(alloc, fuel, env, first, tokens);
@@ -400,6 +433,6 @@ pub fn key_of<'a>(
     let (expr, rest) = P4Expr::read(alloc, fuel, env, rest)?;
     let (_, rest) = sign_of(Sign::Close, rest)?;
     let (_, rest) = sign_of(Sign::Semicolon, rest)?;
-    let stmt = P4Stmt::Keystmt(P4Keystmt { at, expr });
-    Ok((Piece::Stmt { at, stmt }, rest))
+    let piece = stmt_piece(alloc, at, P4Stmt::Keystmt(P4Keystmt { at, expr }))?;
+    Ok((piece, rest))
 }

@@ -9,13 +9,13 @@ use crate::declaration::args_of;
 use crate::expression::expr_of;
 use crate::keyset::{keyset_of, keyset_place};
 use crate::part::{Part, parts_until};
-use crate::token::{Reading, is_next, name_of, number_of, sign_of};
-use crate::typedefs::Typedefs;
 use p4_ast::{
     P4Acts, P4Call, P4Default, P4Entries, P4Entry, P4Key, P4Keys, P4Match, P4Name, P4Size, P4Table,
 };
 use p4_grammar::Properties;
 use p4_lex::{Sign, Token};
+use p4_part::token::{Reading, is_next, name_of, number_of, sign_of};
+use p4_part::typedefs::Typedefs;
 use sqlite_items::Items;
 use std::alloc::Global;
 
@@ -52,7 +52,7 @@ impl Part for P4Key {
         let (matching, rest) = match_of(rest)?;
         let (_, rest) = sign_of(Sign::Semicolon, rest)?;
         let at = x.at;
-        let expr = x.expr;
+        let expr = x.expr.into_inner();
         Ok((P4Key { at, expr, matching }, rest))
     }
 }

@@ -7,7 +7,7 @@ use Rattle.p4_lex.specs.Lexing.{longest}
 use Rattle.p4_ast.specs.declared.program.P4Program.{P4Program}
 use Rattle.p4_print.specs.Programs.{canon}
 use Rattle.p4_grammar.proofs.Programs.{program_complete}
-use Rattle.p4_read.specs.Counting.{deep}
+use Rattle.p4_part.specs.Counting.{deep}
 use Rattle.p4_parse.specs.Parsing.{parsed}
 use Rattle.p4_parse.specs.ByGrammar.{Spelled}
 use Rattle.p4_parse.proofs.Grammatical.{parsed_by, parsed_spelled}

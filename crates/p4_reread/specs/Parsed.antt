@@ -4,7 +4,7 @@ use Rattle.p4_lex.specs.Lexing.{tokens}
 use Rattle.p4_ast.specs.declared.program.P4Program.{P4Program}
 use Rattle.p4_ast.specs.BareProgram.{SameTree}
 use Rattle.p4_print.specs.Programs.{canon}
-use Rattle.p4_read.specs.Counting.{deep}
+use Rattle.p4_part.specs.Counting.{deep}
 use Rattle.p4_parse.specs.Parsing.{parsed}
 
 -- the tokens of this text keep to the four counts

@@ -46,16 +46,47 @@ fn typedefs(alloc: Global) -> Result<Bytes, NoMemory> {
     Ok(text)
 }
 
+// Appends a piece so many times.
+fn append_times(text: &mut Bytes, times: u64, piece: &[u8]) -> Result<(), NoMemory> {
+    for _ in 0..times {
+        text.append(piece)?;
+    }
+    Ok(())
+}
+
 // A program whose block is so many times this piece.
 fn block(alloc: Global, piece: &[u8], times: u64) -> Result<Bytes, NoMemory> {
     let mut text = Bytes::new(alloc);
     text.append(PARSER)?;
     text.append(CONTROL)?;
-    for _ in 0..times {
-        text.append(piece)?;
-    }
+    append_times(&mut text, times, piece)?;
     text.append(END)?;
     Ok(text)
+}
+
+// A program of assignments whose values nest so deeply.
+fn nested_values(
+    alloc: Global,
+    depth: u64,
+    open: &[u8],
+    close: &[u8],
+    times: u64,
+) -> Result<Bytes, NoMemory> {
+    let mut piece = Bytes::new(alloc);
+    piece.append(b"a=")?;
+    append_times(&mut piece, depth, open)?;
+    piece.append(b"a")?;
+    append_times(&mut piece, depth, close)?;
+    piece.append(b";")?;
+    block(alloc, piece.as_slice(), times)
+}
+
+// A program of blocks that nest so deeply.
+fn nested_blocks(alloc: Global, depth: u64, times: u64) -> Result<Bytes, NoMemory> {
+    let mut piece = Bytes::new(alloc);
+    append_times(&mut piece, depth, b"{")?;
+    append_times(&mut piece, depth, b"}")?;
+    block(alloc, piece.as_slice(), times)
 }
 
 // Whether a text of almost full size is parsed as a tree in a fifth of a second. One of ten tries is enough, since other work on
@@ -87,5 +118,25 @@ fn long_texts_are_parsed_in_time(rt: HostRuntime) -> Result<(), Fail> {
         )?
     );
     assert!(rt; is_parsed_in_time(&rt, &block(alloc, b";", 261000)?)?);
+    Ok(())
+}
+
+#[test]
+fn long_texts_of_small_statements_are_parsed_in_time(rt: HostRuntime) -> Result<(), Fail> {
+    let alloc = rt.alloc();
+    assert!(rt; is_parsed_in_time(&rt, &block(alloc, b"a=a;", 65400)?)?);
+    assert!(rt; is_parsed_in_time(&rt, &block(alloc, b"if(a)if(a)if(a)if(a);", 12450)?)?);
+    assert!(rt; is_parsed_in_time(&rt, &block(alloc, b"{}", 130800)?)?);
+    Ok(())
+}
+
+#[test]
+fn long_texts_that_nest_are_parsed_in_time(rt: HostRuntime) -> Result<(), Fail> {
+    let alloc = rt.alloc();
+    assert!(rt; is_parsed_in_time(&rt, &nested_blocks(alloc, 200, 654)?)?);
+    assert!(rt; is_parsed_in_time(&rt, &nested_values(alloc, 120, b"(a+", b")", 540)?)?);
+    assert!(rt; is_parsed_in_time(&rt, &nested_values(alloc, 126, b"a?a:", b"", 515)?)?);
+    assert!(rt; is_parsed_in_time(&rt, &nested_values(alloc, 250, b"a&", b"", 519)?)?);
+    assert!(rt; is_parsed_in_time(&rt, &nested_values(alloc, 160, b"(t)", b"", 540)?)?);
     Ok(())
 }

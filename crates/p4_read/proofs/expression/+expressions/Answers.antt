@@ -5,7 +5,7 @@ use Rattle.p4_grammar.specs.declared.mark.Spelled.{Spelled}
 use Rattle.p4_grammar.specs.Forms.{hand, taken_at, is_given, chain_at}
 use Rattle.p4_grammar.specs.Values.{this, sum_op, binary}
 use Rattle.p4_grammar.specs.ReadingExpressions.{unary_at, compare_at, and_at}
-use Rattle.p4_read.proofs.Loops.{chain_more}
+use Rattle.p4_part.proofs.Loops.{chain_more}
 use Rattle.p4_read.proofs.expression.+expressions.Goals as goal
 
 pub ands_of-loop-left-preserved : goal.ands_of-loop-left-preserved

@@ -3,7 +3,7 @@ use Rattle.std.proofs.lemmas.Grind.{common_steps}
 use Rattle.p4_lex.specs.declared.token.Sign.TheVariants as sign
 use Rattle.p4_grammar.specs.Forms.{hand, many_at}
 use Rattle.p4_grammar.specs.Tokens.{in_hand, words_at}
-use Rattle.p4_read.proofs.Loops.{many_more}
+use Rattle.p4_part.proofs.Loops.{many_more}
 use Rattle.p4_read.proofs.part.parts_behind.Goals as goal
 
 pub loop-left-preserved : goal.loop-left-preserved

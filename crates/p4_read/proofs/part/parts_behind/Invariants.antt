@@ -2,7 +2,7 @@ use Rattle.std.proofs.Common.{◌≡◌, ◌∷◌, []}
 use Rattle.p4_lex.specs.declared.token.Sign.TheVariants as sign
 use Rattle.p4_grammar.specs.Forms.{many_at}
 use Rattle.p4_grammar.specs.Tokens.{in_hand, words_at}
-use Rattle.p4_read.proofs.Loops.{with_front}
+use Rattle.p4_part.proofs.Loops.{with_front}
 use Rattle.p4_read.proofs.part.parts_behind.Given as goal
 
 abbrev pub invariant-loop-left : goal.invariant-loop-left

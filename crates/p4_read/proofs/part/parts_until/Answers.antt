@@ -2,7 +2,7 @@ use Rattle.std.proofs.Common.{◌≡◌, true, Ok, arith}
 use Rattle.std.proofs.lemmas.Grind.{common_steps}
 use Rattle.p4_grammar.specs.Forms.{hand, many_at}
 use Rattle.p4_grammar.specs.Tokens.{but}
-use Rattle.p4_read.proofs.Loops.{many_more}
+use Rattle.p4_part.proofs.Loops.{many_more}
 use Rattle.p4_read.proofs.part.parts_until.Goals as goal
 
 pub loop-left-preserved : goal.loop-left-preserved

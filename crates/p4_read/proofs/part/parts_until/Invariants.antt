@@ -1,7 +1,7 @@
 use Rattle.std.proofs.Common.{◌≡◌}
 use Rattle.p4_grammar.specs.Forms.{many_at}
 use Rattle.p4_grammar.specs.Tokens.{but}
-use Rattle.p4_read.proofs.Loops.{with_front}
+use Rattle.p4_part.proofs.Loops.{with_front}
 use Rattle.p4_read.proofs.part.parts_until.Given as goal
 
 abbrev pub invariant-loop-left : goal.invariant-loop-left
