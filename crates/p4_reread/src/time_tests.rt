@@ -137,6 +137,6 @@ fn long_texts_that_nest_are_parsed_in_time(rt: HostRuntime) -> Result<(), Fail> 
     assert!(rt; is_parsed_in_time(&rt, &nested_values(alloc, 120, b"(a+", b")", 540)?)?);
     assert!(rt; is_parsed_in_time(&rt, &nested_values(alloc, 126, b"a?a:", b"", 515)?)?);
     assert!(rt; is_parsed_in_time(&rt, &nested_values(alloc, 250, b"a&", b"", 519)?)?);
-    assert!(rt; is_parsed_in_time(&rt, &nested_values(alloc, 160, b"(t)", b"", 540)?)?);
+    assert!(rt; is_parsed_in_time(&rt, &nested_values(alloc, 80, b"(bit<1>)", b"", 405)?)?);
     Ok(())
 }
