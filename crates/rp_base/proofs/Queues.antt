@@ -6,7 +6,8 @@ use Rattle.std.proofs.lemmas.List.Sums.{prefix_len_passes}
 use Rattle.std.proofs.lemmas.List.Quantifiers.{position-Some}
 use Rattle.rp_base.specs.declared.node.Node.{Node}
 use Rattle.rp_base.specs.declared.mem_link.Waiting.{Waiting}
-use Rattle.rp_base.specs.Memory.{same_node, queue_of, Leaves}
+use Rattle.rp_base.specs.Memory.{queue_of, Leaves}
+use Rattle.rp_base.specs.Nodes.{same_node}
 
 one_node : (a b : Node) → same_node a b ≡ true → a ≡ b
 one_node (Node.Switch n) (Node.Switch m) h = ap Node.Switch (eqb-true n m h)

@@ -1,5 +1,5 @@
 -- Objects in memory.
-use Rattle.std.specs.Prelude.{ℕ, zero, suc, ◌-◌, ◌^◌, ◌≤◌, ◌≡◌, ◌==◌, min, List, [], ◌∷◌, ◌++◌, length, map, slice_index, All, if◌then◌else◌, nat_lt, Option, Some, None, Bool, true, false}
+use Rattle.std.specs.Prelude.{ℕ, zero, suc, ◌+◌, ◌-◌, ◌^◌, ◌≤◌, ◌≡◌, min, List, [], ◌∷◌, ◌++◌, length, map, slice_index, All, if◌then◌else◌, nat_lt, Option, Some, None, Bool, true, false, Result, IsErrOf}
 use Rattle.std.specs.List.{filter}
 use Rattle.std.specs.List.Sorted.{IsNonDecreasing}
 use Rattle.std.specs.Str.{bytes_eq}
@@ -8,6 +8,7 @@ use Rattle.rp_base.specs.declared.mem_link.Datagram.{Datagram}
 use Rattle.rp_base.specs.declared.mem_link.Receipt.{Receipt}
 use Rattle.rp_base.specs.declared.mem_link.Waiting.{Waiting}
 use Rattle.rp_base.specs.declared.node.Node.{Node}
+use Rattle.rp_base.specs.Nodes.{same_node}
 
 -- the content of the first entry with this name
 abbrev pub content_of : List Content → List ℕ → Option (List ℕ)
@@ -35,13 +36,6 @@ sending_of d = (d.from, d.to, d.bytes)
 abbrev pub receipt_of : Receipt → Node × Option (List ℕ)
 receipt_of r = (r.node, r.bytes)
 
--- whether two nodes are one
-abbrev pub same_node : Node → Node → Bool
-same_node (Node.Switch n) (Node.Switch m) = n == m
-same_node (Node.Replica n) (Node.Replica m) = n == m
-same_node Node.Master Node.Master = true
-same_node _ _ = false
-
 -- the bytes of the datagrams that wait for a node, in the order in which they came
 abbrev pub queue_of : Node → List Waiting → List (List ℕ)
 queue_of node waiting = map (λ w. w.bytes) (filter (λ w. same_node w.to node) waiting)
@@ -55,6 +49,15 @@ pub record Joins (to : Node) (bytes : List ℕ) (old new : List Waiting) : Type 
 pub record Leaves (node : Node) (bytes : List ℕ) (old new : List Waiting) : Type 0 where
   pub first : queue_of node old ≡ bytes ∷ queue_of node new
   pub others : (other : Node) → same_node node other ≡ false → queue_of other new ≡ queue_of other old
+
+-- a count of calls after one more; it stays at its end
+abbrev pub one_more : ℕ → ℕ
+one_more n = min (n + 1) (2 ^ 64 - 1)
+
+-- a count of faults after a call: one more exactly where the call failed with this error
+pub record CountsFaults {T E : Type 0} (before now : ℕ) (result : Result T E) (error : E) : Type 0 where
+  pub rises : IsErrOf result error → now ≡ one_more before
+  pub stays : ¬ (IsErrOf result error) → now ≡ before
 
 -- a list from which a clock can answer: no member is below the one before it, none is past 2^61
 pub record CanAnswer (coming : List ℕ) : Type 0 where

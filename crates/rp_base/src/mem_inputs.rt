@@ -1,7 +1,7 @@
 //! Inputs in memory.
 ghost use Rattle.std.specs.Prelude.{◌≡◌, ◌+◌, ◌⊎◌, ◌↔◌, [], Some, None, take, length, IfSome, OnOk, OnErr, IsErrOf, Contains};
 ghost use Rattle.std.specs.Option.{option_copied};
-ghost use Rattle.rp_base.specs.Memory.{content_of, sure_content_of};
+ghost use Rattle.rp_base.specs.Memory.{content_of, sure_content_of, one_more, CountsFaults};
 ghost use Rattle.rp_base.specs.Outside.{HasCause};
 
 use crate::bytes::Bytes;
@@ -97,6 +97,9 @@ impl Inputs for MemInputs {
         ensures same { self.new.contents.items ≡ self.old.contents.items }
         ensures cause { HasCause self.old.faults self.new.faults result InputEnd.Failed }
         ensures listed { IsErrOf result InputEnd.Failed ↔ (Contains self.old.failing.items self.old.calls ⊎ (content_of self.old.contents.items name.now ≡ None)) }
+        ensures counted { CountsFaults self.old.faults self.new.faults result InputEnd.Failed }
+        ensures calls { self.new.calls ≡ one_more self.old.calls }
+        ensures failing { self.new.failing ≡ self.old.failing }
     {
         into.clear();
         let call = self.calls;

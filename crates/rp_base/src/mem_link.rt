@@ -2,7 +2,8 @@
 ghost use Rattle.std.specs.Prelude.{◌≡◌, ◌++◌, ◌∷◌, [], Some, None, true, false, map, ◌↔◌, OnOk, OnErr, IsErrOf, Contains};
 ghost use Rattle.std.specs.List.{position};
 ghost use Rattle.rp_base.specs.declared.node.Node.{Node as NodeValue};
-ghost use Rattle.rp_base.specs.Memory.{sending_of, receipt_of, same_node, queue_of, Joins, Leaves};
+ghost use Rattle.rp_base.specs.Memory.{sending_of, receipt_of, queue_of, one_more, CountsFaults, Joins, Leaves};
+ghost use Rattle.rp_base.specs.Nodes.{same_node};
 ghost use Rattle.rp_base.specs.Outside.{HasCause};
 
 use crate::bytes::Bytes;
@@ -216,6 +217,11 @@ impl Link for MemLink {
         ensures received { self.new.post.received.items ≡ self.old.post.received.items }
         ensures cause { HasCause self.old.faults self.new.faults result LinkEnd.Failed }
         ensures listed { IsErrOf result LinkEnd.Failed ↔ Contains self.old.failing_sends.items self.old.sends }
+        ensures counted { CountsFaults self.old.faults self.new.faults result LinkEnd.Failed }
+        ensures sends { self.new.sends ≡ one_more self.old.sends }
+        ensures receives { self.new.receives ≡ self.old.receives }
+        ensures failing_sends { self.new.failing_sends ≡ self.old.failing_sends }
+        ensures failing_receives { self.new.failing_receives ≡ self.old.failing_receives }
     {
         let call = self.sends;
         self.sends = self.sends.saturating_add(1);
@@ -236,6 +242,11 @@ impl Link for MemLink {
         ensures sent { self.new.post.sent.items ≡ self.old.post.sent.items }
         ensures cause { HasCause self.old.faults self.new.faults result LinkEnd.Failed }
         ensures listed { IsErrOf result LinkEnd.Failed ↔ Contains self.old.failing_receives.items self.old.receives }
+        ensures counted { CountsFaults self.old.faults self.new.faults result LinkEnd.Failed }
+        ensures receives { self.new.receives ≡ one_more self.old.receives }
+        ensures sends { self.new.sends ≡ self.old.sends }
+        ensures failing_sends { self.new.failing_sends ≡ self.old.failing_sends }
+        ensures failing_receives { self.new.failing_receives ≡ self.old.failing_receives }
     {
         into.clear();
         let call = self.receives;

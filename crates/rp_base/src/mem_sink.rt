@@ -1,7 +1,7 @@
 //! Sinks in memory. Their room is made beforehand, so that a write takes no memory.
 ghost use Rattle.std.specs.Prelude.{◌≡◌, ◌≤◌, ◌+◌, ◌++◌, ◌↔◌, [], true, false, length, take, min, Ok, IfOk, IsErr, OnErr, Contains};
 ghost use Rattle.std.specs.Vec.{vec_capacity};
-ghost use Rattle.rp_base.specs.Memory.{told, StaysWhole};
+ghost use Rattle.rp_base.specs.Memory.{told, one_more, CountsFaults, StaysWhole};
 ghost use Rattle.rp_base.specs.Outside.{Grows, HasCause};
 
 use crate::error::NoMemory;
@@ -97,6 +97,10 @@ impl Sink for MemSink {
         ensures room { self.new.kept.room ≡ self.old.kept.room }
         ensures err { OnErr result (self.new.kept ≡ self.old.kept) }
         ensures cause { HasCause self.old.faults self.new.faults result (record {}) }
+        ensures counted { CountsFaults self.old.faults self.new.faults result (record {}) }
+        ensures calls { self.new.calls ≡ one_more self.old.calls }
+        ensures most { self.new.most ≡ self.old.most }
+        ensures failing { self.new.failing ≡ self.old.failing }
     {
         let call = self.calls;
         self.calls = self.calls.saturating_add(1);

@@ -1,6 +1,7 @@
 use Rattle.std.proofs.Common.{◌≡◌, Some, None, sym, ap, subst, ◌∙◌, List, get_or}
 use Rattle.std.specs.List.{position, remove}
-use Rattle.rp_base.specs.Memory.{same_node, Leaves}
+use Rattle.rp_base.specs.Memory.{Leaves}
+use Rattle.rp_base.specs.Nodes.{same_node}
 use Rattle.rp_base.specs.declared.mem_link.Waiting.{Waiting}
 use Rattle.rp_base.proofs.Queues.{nothing_waits, first_leaves}
 use Rattle.rp_base.proofs.mem_link.Post.recv.Goals as goal
