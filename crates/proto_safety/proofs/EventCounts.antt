@@ -16,12 +16,12 @@ replica_counts : (w : World) (n : ℕ) (input : Input) (o : Option ReplicaNode) 
 replica_counts w n input None = refl
 replica_counts w n input (Some node) = refl
 
-node_counts : (app : Application) (w : World) (to : Node) (input : Input) → (node_takes app w to input).0.event ≡ w.event
+pub node_counts : (app : Application) (w : World) (to : Node) (input : Input) → (node_takes app w to input).0.event ≡ w.event
 node_counts app w (Node.Switch n) input = switch_counts app w n input (slice_get w.switches n)
 node_counts app w (Node.Replica n) input = replica_counts w n input (slice_get w.replicas n)
 node_counts app w Node.Master input = refl
 
-act_counts : (app : Application) (w : World) (act : Act) → (perform_act app w act).0.event ≡ w.event
+pub act_counts : (app : Application) (w : World) (act : Act) → (perform_act app w act).0.event ≡ w.event
 act_counts app w (Refuses cause) = refl
 act_counts app w (Feeds n p) = switch_counts app (packet_fed w p) n (Input.Packet p) (slice_get w.switches n)
 act_counts app w (Delivers i m) = node_counts app (frame_passed w i) m.to (Input.Msg m)

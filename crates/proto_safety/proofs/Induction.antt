@@ -89,7 +89,7 @@ module _ (app : Application) (I : World → Type 0) (k : Keeps app I) where
   replica_kept w n input None at up from h = h
   replica_kept w n input (Some node) at up from h = k.replicas w n node input at up from h
 
-  node_kept : (w : World) (to : Node) (input : Input) → runs_now w to ≡ true → Comes w to input → I w → I (node_takes app w to input).0
+  pub node_kept : (w : World) (to : Node) (input : Input) → runs_now w to ≡ true → Comes w to input → I w → I (node_takes app w to input).0
   node_kept w (Node.Switch n) input up from h = switch_kept w n input (slice_get w.switches n) refl up from h
   node_kept w (Node.Replica n) input up from h = replica_kept w n input (slice_get w.replicas n) refl up from h
   node_kept w Node.Master input up from h = h

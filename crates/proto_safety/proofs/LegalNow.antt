@@ -97,7 +97,7 @@ before_marks (x ∷ pre) post j m is once =
     not_same false e = refl
 
 -- what fed_at finds
-fed_found : (feeds : List Fed) (m : ℕ) (f : Fed) → fed_at feeds m ≡ Some f → In feeds f × (f.packet.mark ≡ m)
+pub fed_found : (feeds : List Fed) (m : ℕ) (f : Fed) → fed_at feeds m ≡ Some f → In feeds f × (f.packet.mark ≡ m)
 fed_found [] m f at = cc
 fed_found (g ∷ gs) m f at = found_case (g.packet.mark == m) refl at (fed_found gs m f)
   where
@@ -150,7 +150,7 @@ marks_found f (e ∷ es) key r at = found_case (same_key e.0 key) refl at (marks
     found_case true is at rest = ap f (same_key-true e.0 key is)
     found_case false is at rest = rest at
 
-among_in : {A : Type 0} (vs : List A) (v : A) → IsAmong vs v → In vs v
+pub among_in : {A : Type 0} (vs : List A) (v : A) → IsAmong vs v → In vs v
 among_in vs v a = at_place vs v a.0 a.1.0 a.1.1
   where
     at_place : {A : Type 0} (vs : List A) (v : A) (i : ℕ) → i < length vs → v ≡ slice_index_or vs i v → In vs v

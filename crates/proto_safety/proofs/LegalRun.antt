@@ -29,7 +29,7 @@ use Rattle.proto_safety.proofs.FirstsInduction.{KeepsFirsts}
 use Rattle.proto_safety.proofs.FlowCellCount.{AllCounted, counted_kept, all_counted}
 use Rattle.proto_safety.proofs.Induction.{Keeps, KeepsGiven, keeps_all, keeps_both, run_kept}
 use Rattle.proto_safety.proofs.LegalNow.{legal_now, pairwise_unmapped, serial_same}
-use Rattle.proto_safety.proofs.MarksStand.{marks_stand, released_once}
+use Rattle.proto_safety.proofs.WorldMarks.{MarksOf, marks_hold}
 use Rattle.proto_safety.proofs.WorldCells.{Cells, cells_kept}
 use Rattle.proto_safety.proofs.WorldFlows.{Replied, replied_kept, flows_rest}
 use Rattle.proto_safety.proofs.WorldBooks.{books_hold}
@@ -196,21 +196,26 @@ module _ (app : Application) (is : IsApplication app) (E : World → Type 0) (e 
                 ∙ (ap (λ l. l ++ map (λ (j : Journaled). j.item.mark) p.rest) is ∙ append_assoc front (m ∷ behind) (map (λ (j : Journaled). j.item.mark) p.rest)))),
           )
 
-  pub legal : (setup : Setup) (events : List Event) → Ended (opened app.cell_count setup) → IsLegal app (world_after app (opened app.cell_count setup) events)
-  legal setup events start =
-      let w = world_after app (opened app.cell_count setup) events in
-      let h : Lawful (world_after app (opened app.cell_count setup) events) = run_kept app Lawful lawful_kept events (opened app.cell_count setup) (((start, opened_cells app setup), opened_shown app setup), opened_order app setup) in
-      let f = facts (world_after app (opened app.cell_count setup) events) h.0.0.0 in
-      legal_now app (world_after app (opened app.cell_count setup) events)
+  -- of one world
+  pub legal_at : (w : World) → Lawful w → MarksOf w → IsLegal app w
+  legal_at w h marks =
+      let f = facts w h.0.0.0 in
+      legal_now app w
       (record {
         fits = f.fits;
         known = f.known;
         flows = h.0.0.1.flows;
-        once = pairwise_unmapped (λ a b. a ≢ b) (λ (j : Journaled). j.item.mark) _ (marks_stand app is setup events).once_in_journals;
-        released_once = pairwise_unmapped (λ a b. a ≢ b) (λ (r : Released). r.output.mark) _ (released_once app is setup events);
+        once = pairwise_unmapped (λ a b. a ≢ b) (λ (j : Journaled). j.item.mark) w.history.items marks.items_once;
+        released_once = pairwise_unmapped (λ a b. a ≢ b) (λ (r : Released). r.output.mark) w.history.released marks.released_once;
         shown = h.0.1;
         order = h.1;
       })
+
+  pub legal : (setup : Setup) (events : List Event) → Ended (opened app.cell_count setup) → IsLegal app (world_after app (opened app.cell_count setup) events)
+  legal setup events start =
+      legal_at (world_after app (opened app.cell_count setup) events)
+      (run_kept app Lawful lawful_kept events (opened app.cell_count setup) (((start, opened_cells app setup), opened_shown app setup), opened_order app setup))
+      (marks_hold app is setup events)
 
 -- from what is kept of the first sendings: a history is legal if the leases' ends follow
 pub legal_by : (app : Application) → IsApplication app → (J : List First → World → Type 0) → KeepsFirsts app (Standing app) J → ((w : World) (fs : List First) → Laid app w → J fs w → OverLate w) → (setup : Setup) → setup.terms.mode ≡ Mode.Strict →

@@ -113,6 +113,14 @@ pub mod WorldOrder
 pub mod WorldSerial
 pub mod LegalNow
 pub mod LegalRun
+pub mod ReleasedLate
+pub mod ReportLegal
+pub mod RulesOneByOne
+pub mod EpochsCount
+pub mod LinkedKept
+pub mod LinkedLegal
+pub mod LinkedTold
+pub mod LinkedRefusals
 pub mod SerialOnce
 pub mod LeasesStand
 pub mod CellsStand
@@ -134,6 +142,7 @@ pub mod StraightAsks
 pub mod NodeSizes
 pub mod WorldSizes
 pub mod EventCounts
+pub mod LinesTold
 pub mod NodesSay
 pub mod LinkedSizes
 pub mod FirstsOnce

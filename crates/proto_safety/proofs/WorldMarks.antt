@@ -258,10 +258,10 @@ less_waits fed old new js rs a r h =
       released_once = h.released_once;
     }
 
-abbrev Given : Application → World → Type 0
+abbrev pub Given : Application → World → Type 0
 Given app w = AllWhole app.cell_count w × FedOnce w
 
-given_kept : (app : Application) → Keeps app (Given app)
+pub given_kept : (app : Application) → Keeps app (Given app)
 given_kept app = keeps_both app (AllWhole app.cell_count) FedOnce (whole_kept app)
     (record {
       counts = λ w i h. (once_kept app).counts w h;
@@ -360,7 +360,7 @@ none_at_first : (f : SwitchNode → ℕ) (setup : Setup) (ns : List ℕ) → ((n
 none_at_first f setup [] none = refl
 none_at_first f setup (n ∷ ns) none = omega (arith, none n, none_at_first f setup ns none)
 
-opened_marks : (app : Application) (setup : Setup) → MarksOf (opened app.cell_count setup)
+pub opened_marks : (app : Application) (setup : Setup) → MarksOf (opened app.cell_count setup)
 opened_marks app setup =
     record {
       one = λ m. omega (arith, none_at_first (λ x. rings_of m x.state) setup (below setup.switches) (λ n. refl));

@@ -19,3 +19,6 @@ pub mod StoreTable
 pub mod StoreSent
 pub mod NeededPremises
 pub mod FirstLaws
+pub mod LegalLines
+pub mod EpochOrder
+pub mod RuleRows

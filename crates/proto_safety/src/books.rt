@@ -8,6 +8,9 @@ ghost use Rattle.proto_model.specs.Stands.{Stands};
 ghost use Rattle.proto_model.specs.World.{ReplicaNode, Setup, opened};
 ghost use Rattle.proto_model.specs.WorldStep.{world_after};
 ghost use Rattle.proto_safety.specs.Epochs.{EpochsOf};
+ghost use Rattle.proto_safety.specs.EpochOrder.{EpochsRise, SerialByEpoch};
+ghost use Rattle.proto_model.specs.Committed.{committed_book};
+ghost use Rattle.proto_model.specs.Table.{Key};
 ghost use Rattle.proto_safety.specs.Books.{HoldsIn, InOrder, IsPrefix, book_of, committed_of};
 
 /// Each replica's records are its entries, applied one after the other.
@@ -33,6 +36,16 @@ pub fn configurations_hold()
 pub fn epochs_are_granted_once()
     ensures each { (app : Application) (setup : Setup) (events : List Event) (n : ℕ) → EpochsOf (book_of (world_after app (opened app.cell_count setup) events).replicas n) }
     ensures committed { (app : Application) (setup : Setup) (events : List Event) → EpochsOf (committed_of (world_after app (opened app.cell_count setup) events).replicas) }
+{}
+
+/// Epochs of a flow rise by one from 1, along every replica's book and along the committed one. So a flow's serial list goes by
+/// rising epoch: the committed items of the first, then those of the second, and so on.
+pub fn epochs_rise_by_one()
+    ensures each { (app : Application) (setup : Setup) (events : List Event) (key : Key) →
+        Each (λ (r : ReplicaNode). EpochsRise key r.book) (world_after app (opened app.cell_count setup) events).replicas }
+    ensures committed { (app : Application) (setup : Setup) (events : List Event) (key : Key) →
+        EpochsRise key (committed_book (world_after app (opened app.cell_count setup) events)) }
+    ensures serial { (app : Application) (setup : Setup) (events : List Event) (key : Key) → SerialByEpoch (world_after app (opened app.cell_count setup) events) key }
 {}
 
 /// The committed book only grows.

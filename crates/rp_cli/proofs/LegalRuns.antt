@@ -1,8 +1,9 @@
 -- The run of an accepted schedule is legal.
-use Rattle.std.proofs.Common.{◌≡◌, ◌∙◌, sym, subst, Bool, List, ℕ, Option, Some, None, Result, Ok, Err, IfSome, IfOk, ap}
+use Rattle.std.proofs.Common.{◌≡◌, ◌∙◌, sym, subst, Bool, List, ℕ, Option, Some, None, Result, Ok, Err, IfSome, IfOk, ap, refl}
 use Rattle.rp_app.specs.Application.{counting}
 use Rattle.rp_app.specs.Counting.{counting_promised}
 use Rattle.proto_safety.proofs.HandedKept.{runs_are_legal}
+use Rattle.proto_safety.proofs.ReportLegal.{reports_are_legal}
 use Rattle.sched_lang.specs.declared.schedule.Schedule.{Schedule}
 use Rattle.sched_lang.specs.Reading.{Fault, schedule_of}
 use Rattle.sched_lang.specs.Ready.{IsReady}
@@ -13,7 +14,13 @@ use Rattle.rp_cli.specs.Reports.{IsLegalRun, setup_of, unlinked, mode_of}
 use Rattle.rp_cli.specs.Top.{Command, Counts, Runs, form_of, asked, asked_at, read_or_refused, schedule_in, Loads, IsOkWith, IsLegalAfter, IsNoSchedule}
 
 legal_run : (s : Schedule) → IsReady s → IsLegalRun s
-legal_run s ready = runs_are_legal counting counting_promised (unlinked (setup_of s)) (ap mode_of ready.header.strict) ready.header.hold ready.header.some_store s.events
+legal_run s ready =
+    let setup = unlinked (setup_of s) in
+    record {
+      history = runs_are_legal counting counting_promised setup (ap mode_of ready.header.strict) ready.header.hold ready.header.some_store s.events;
+      lines = λ frames. reports_are_legal counting counting_promised setup (ap mode_of ready.header.strict) ready.header.hold ready.header.some_store s.events frames;
+      text = λ frames. refl;
+    }
 
 legal_read : (read : Result Schedule Fault) → IfOk read IsReady → IfOk (read_or_refused read) IsLegalRun
 legal_read (Ok s) ready = legal_run s ready

@@ -1,10 +1,12 @@
 -- The run that a schedule asks for, and the text of its report.
-use Rattle.std.specs.Prelude.{ℕ, Bool, true, false, List, [], Option, Some, None, flat_map}
+use Rattle.std.specs.Prelude.{ℕ, ◌≡◌, Bool, true, false, List, [], Option, Some, None, flat_map}
 use Rattle.rp_base.specs.declared.event.Event.{Event}
 use Rattle.rp_base.specs.declared.line.Line.{Line}
 use Rattle.rp_app.specs.Application.{Application, counting}
 use Rattle.proto_data.specs.declared.terms.Mode.{Mode}
 use Rattle.proto_model.specs.Legal.{IsLegal}
+use Rattle.proto_model.specs.Lines.{Line as WorldLine}
+use Rattle.proto_safety.specs.LegalLines.{LegalLines}
 use Rattle.proto_model.specs.World.{Setup as WorldSetup, opened}
 use Rattle.proto_model.specs.WorldStep.{world_after}
 use Rattle.proto_model.specs.EndLines.{report}
@@ -49,6 +51,14 @@ running_text false l = line_text l
 abbrev pub running_texts : Bool → List Line → List ℕ
 running_texts frames ls = flat_map (running_text frames) ls
 
--- What the run of a schedule shows of each flow is what one switch that never fails gives along the flow's serial list.
-abbrev pub IsLegalRun : Schedule → Type 0
-IsLegalRun s = IsLegal counting (world_after counting (opened counting.cell_count (unlinked (setup_of s))) s.events)
+-- the lines of that report
+abbrev pub counting_lines : Bool → Schedule → List WorldLine
+counting_lines frames s = report frames counting (unlinked (setup_of s)) s.events
+
+-- What the run of a schedule shows of each flow is what one switch that never fails gives along the flow's serial list: in its
+-- history, and in the lines of its report, over the schedule's events alone, with the frames that it sends or without them.
+pub record IsLegalRun (s : Schedule) : Type 0 where
+  pub history : IsLegal counting (world_after counting (opened counting.cell_count (unlinked (setup_of s))) s.events)
+  pub lines : (frames : Bool) → LegalLines counting s.events (counting_lines frames s)
+  -- these are the lines whose text is written
+  pub text : (frames : Bool) → counting_report frames s ≡ lines_text (shown (counting_lines frames s))
