@@ -44,7 +44,7 @@ packs_same old new (j ∷ js) h =
     ∙ (ap (λ l. l ++ packs new js) (packs_one new j ∙ (ap one_of (h j (inl refl)) ∙ sym (packs_one old j)))
     ∙ (ap (λ l. packs old (j ∷ []) ++ l) (packs_same old new js (λ x i. h x (inr i))) ∙ sym (packs-append old (j ∷ []) js)))
 
-ran_same : (app : Application) (old new : List Fed) (js : List Journaled) → SameFound old new js → ran app new js ≡ ran app old js
+pub ran_same : (app : Application) (old new : List Fed) (js : List Journaled) → SameFound old new js → ran app new js ≡ ran app old js
 ran_same app old new js h = ap (λ l. after app (zeros app.cell_count) l) (packs_same old new js h)
 
 -- ---- what a flow's lists consist of

@@ -1,5 +1,5 @@
 -- What the cells rest on, from what is known of books, replies, requests, Puts and leases.
-use Rattle.std.proofs.Common.{◌≡◌, ℕ, ◌+◌, ◌≤◌, ◌<◌, List, [], ◌∷◌, ◌++◌, map, Option, Some, None, arith, refl, sym, ◌∙◌, ap, subst, true, false, Bool, inl, inr, slice_get, eqb-true}
+use Rattle.std.proofs.Common.{◌≡◌, ℕ, ◌+◌, ◌≤◌, ◌<◌, List, [], ◌∷◌, ◌++◌, map, length, Option, Some, None, arith, refl, sym, ◌∙◌, ap, subst, true, false, Bool, inl, inr, slice_get, eqb-true}
 use Rattle.std.specs.Prelude.{if◌then◌else◌}
 use Rattle.std.proofs.lemmas.Bool.{and_parts, both_ways, cases_lt}
 use Rattle.std.proofs.lemmas.Grind.{fold-append}
@@ -24,12 +24,11 @@ use Rattle.proto_model.specs.WorldStep.{config_msg}
 use Rattle.proto_safety.specs.Books.{In, Runs, committed_of}
 use Rattle.proto_safety.specs.Flows.{Flow, FitsFrom, GrantedIn, AckedIn, Reply, ToSwitch, flow_step, flow_from, flow_of}
 use Rattle.proto_safety.specs.LeaseLaws.{HasEpoch, SlotAt}
-use Rattle.proto_safety.specs.Origins.{Origin, PutSent}
+use Rattle.proto_safety.specs.Origins.{Origin, PutSent, SnapSent, ChunkSent}
 use Rattle.proto_safety.specs.CellLaws.{Rests, SlotRests, copies_of}
 use Rattle.proto_safety.proofs.BookEpochs.{Stepped, other, first, next, put, snap, stepped, fits_parts, entry_from, grant_above, was_granted, WasGranted, flow_later_from}
 use Rattle.proto_safety.proofs.BooksStep.{step_sent}
 use Rattle.proto_safety.proofs.CellFacts.{CellFacts, GrantedTo, SentPut, GrantSaid}
-use Rattle.proto_safety.proofs.CellsStep.{no_snap}
 use Rattle.proto_safety.proofs.Chains.{each_in}
 use Rattle.proto_safety.proofs.EpochNumbers.{IsNumber, number_epoch, number_value}
 use Rattle.proto_safety.proofs.FedMarks.{FedOnce, once_kept}
@@ -38,7 +37,7 @@ use Rattle.proto_safety.proofs.FlowAlarm.{in_filter}
 use Rattle.proto_safety.proofs.FlowBooks.{Numbered, last_numbered, granted_in, in_prefix}
 use Rattle.proto_safety.proofs.FlowCells.{ItemsKnown}
 use Rattle.proto_safety.proofs.FramesCarry.{FramesCarry, carry_kept}
-use Rattle.proto_safety.proofs.Ground.{Ground, ground_kept, known_of}
+use Rattle.proto_safety.proofs.Ground.{Ground, IsStrict, strict_kept, ground_kept, known_of}
 use Rattle.proto_safety.proofs.Lists.{each_at, each_append, each_map, each_weaker}
 use Rattle.proto_safety.proofs.NoSnaps.{NoSnap, step_snapless}
 use Rattle.proto_safety.proofs.NumberSplits.{NumbersRise}
@@ -48,7 +47,7 @@ use Rattle.proto_safety.proofs.SwitchSends.{IsRequest}
 use Rattle.proto_safety.proofs.SwitchTable.{msg}
 use Rattle.proto_safety.proofs.Tables.{same_key-refl, same_key-true}
 use Rattle.proto_safety.proofs.WorldOrigins.{FrameOrigin, NodeOrigins, from_is_switch}
-use Rattle.proto_safety.proofs.WorldPuts.{PutFrame, Known, InTurn, Awaited}
+use Rattle.proto_safety.proofs.WorldPuts.{PutFrame, is_put, is_snap, Known, InTurn, Awaited}
 use Rattle.proto_safety.proofs.Induction.{Keeps, KeepsGiven, keeps_all, keeps_both, Comes}
 
 -- ---- a Grant in a book
@@ -115,16 +114,16 @@ rise_of (j ∷ js) key e h = rise_case (is_in key e j) refl (rise_of js key e h.
 
 -- ---- no Snaps
 
-snaps_kept : (app : Application) → KeepsGiven app (Ground app.cell_count) (λ w. Each (λ (m : Msg). NoSnap m.body) w.frames)
+snaps_kept : (app : Application) → KeepsGiven app (λ w. Ground app.cell_count w × IsStrict w) (λ w. Each (λ (m : Msg). NoSnap m.body) w.frames)
 snaps_kept app =
     record {
       counts = λ w g h. h;
       passes = λ w i g h. h;
-      feeds = λ w n node p at up mark g h. each_append (λ (m : Msg). NoSnap m.body) w.frames _ h (step_snapless app node.state node.clock (Input.Packet p) (ap (λ t. t.mode) (g.1.1.switches n node at) ∙ g.1.1.world));
-      switches = λ w n node input at up from g h. each_append (λ (m : Msg). NoSnap m.body) w.frames _ h (step_snapless app node.state node.clock input (ap (λ t. t.mode) (g.1.1.switches n node at) ∙ g.1.1.world));
+      feeds = λ w n node p at up mark g h. each_append (λ (m : Msg). NoSnap m.body) w.frames _ h (step_snapless app node.state node.clock (Input.Packet p) (ap (λ t. t.mode) (g.0.1.1.switches n node at) ∙ g.1));
+      switches = λ w n node input at up from g h. each_append (λ (m : Msg). NoSnap m.body) w.frames _ h (step_snapless app node.state node.clock input (ap (λ t. t.mode) (g.0.1.1.switches n node at) ∙ g.1));
       replicas = λ w n node input at up from g h.
           each_append (λ (m : Msg). NoSnap m.body) w.frames _ h
-          (each_weaker _ (λ (m : Msg). NoSnap m.body) (store_step node.state node.clock input).1.sent (λ m s. store_snapless (store_step node.state node.clock input).0 _ m.from m.to m.body s) (step_sent node.state node.book node.clock w.event input (g.0.0.0.0.0.1.nodes n node at).stands));
+          (each_weaker _ (λ (m : Msg). NoSnap m.body) (store_step node.state node.clock input).1.sent (λ m s. store_snapless (store_step node.state node.clock input).0 _ m.from m.to m.body s) (step_sent node.state node.book node.clock w.event input (g.0.0.0.0.0.0.1.nodes n node at).stands));
       advances = λ w by fits g h. h;
       stops_switch = λ w n fits g h. h;
       stops_replica = λ w n fits g h. h;
@@ -156,7 +155,7 @@ abbrev pub Packets : Application → World → Type 0
 Packets app w = FedOnce w × FramesCarry app w
 
 abbrev pub Snapless : Application → World → Type 0
-Snapless app w = Ground app.cell_count w × Each (λ (m : Msg). NoSnap m.body) w.frames
+Snapless app w = (Ground app.cell_count w × IsStrict w) × Each (λ (m : Msg). NoSnap m.body) w.frames
 
 -- all but the ends of leases
 abbrev pub Based : Application → World → Type 0
@@ -166,39 +165,50 @@ pub based_kept : (app : Application) → Keeps app (Based app)
 based_kept app =
     keeps_all app (Settled app.cell_count) (λ w. Packets app w × Snapless app w) (settled_kept app)
     (keeps_all app (Packets app) (Snapless app) (keeps_both app FedOnce (FramesCarry app) (once_kept app) (carry_kept app))
-    (keeps_both app (Ground app.cell_count) (λ w. Each (λ (m : Msg). NoSnap m.body) w.frames) (ground_kept app) (snaps_kept app)))
+    (keeps_both app (λ w. Ground app.cell_count w × IsStrict w) (λ w. Each (λ (m : Msg). NoSnap m.body) w.frames) (keeps_all app (Ground app.cell_count) IsStrict (ground_kept app) (strict_kept app)) (snaps_kept app)))
 
-module _ (app : Application) (w : World) (b : Based app w) (o : OverLate w) where
+module _ (app : Application) (w : World) (b : Settled app.cell_count w) (o : OverLate w) where
   abbrev es : List Entry
   es = committed_of w.replicas
 
-  known : Known app.cell_count w.frames w.switches w.replicas
-  known = known_of app.cell_count w b.0.0
+  pub known : Known app.cell_count w.frames w.switches w.replicas
+  known = known_of app.cell_count w b.0
 
-  from_switch : (m : Msg) → In w.frames m → IsRequest m.body → (n : ℕ) × (m.from ≡ Node.Switch n)
-  from_switch m i r = (switch_of m.from, from_is_switch m.from ((each_in (FrameOrigin w.frames) w.frames m b.0.0.0.1.1.frames i).from r))
+  pub from_switch : (m : Msg) → In w.frames m → IsRequest m.body → (n : ℕ) × (m.from ≡ Node.Switch n)
+  from_switch m i r = (switch_of m.from, from_is_switch m.from ((each_in (FrameOrigin w.frames) w.frames m b.0.0.1.1.frames i).from r))
 
   pub put_frame : (e k : ℕ) (key : Key) (delta : Delta) → SentPut w.frames key e k delta → (n : ℕ) × ((inc : ℕ) × PutFrame w.frames n inc key e k)
   put_frame e k key delta q =
       let n = from_switch q.msg q.there (rw q.body_is tt) in
-      (n.0, (q.inc, record { msg = q.msg; there = q.there; from_is = n.1; delta = delta; load = q.load; body_is = q.body_is }))
+      (n.0, (q.inc, record { msg = q.msg; there = q.there; from_is = n.1; number_in = is_put q.msg q.inc e k key delta q.load q.body_is }))
 
-  items_known : (key : Key) → ItemsKnown app.cell_count es w.history.items key
+  -- a round that became an entry was sent with its number
+  snap_frame : (e k : ℕ) (key : Key) (cells : List ℕ) → SnapSent w.frames key e k cells → (n : ℕ) × ((inc : ℕ) × PutFrame w.frames n inc key e k)
+  snap_frame e k key cells q = parts_case q.parts q.some q.sent
+    where
+      parts_case : (parts : List (List ℕ)) → 1 ≤ length parts → ((i : ℕ) (part : List ℕ) → slice_get parts i ≡ Some part → ChunkSent w.frames key e k i (length q.parts) part) → (n : ℕ) × ((inc : ℕ) × PutFrame w.frames n inc key e k)
+      parts_case [] some sent = absurd (omega (arith, some))
+      parts_case (x ∷ xs) some sent =
+          let c = sent 0 x refl in
+          let n = from_switch c.msg c.there (rw c.body_is tt) in
+          (n.0, (c.inc, record { msg = c.msg; there = c.there; from_is = n.1; number_in = is_snap c.msg c.inc e k 0 (length q.parts) key x c.body_is }))
+
+  pub items_known : (key : Key) → ItemsKnown app.cell_count es w.history.items key
   items_known key =
       record {
         granted = λ j i of.
-            let g = b.0.1.item_granted j i in
+            let g = b.1.item_granted j i in
             let t : GrantedTo app.cell_count es key j.item.epoch =
             granted_to app.cell_count key es j.item.epoch g.n g.inc g.grant.nonce (known.committed_fits key) (subst (λ y. In es (Entry.Grant y j.item.epoch g.n g.inc g.grant.nonce)) of g.grant.there) in
             (t.flow, (t.flow_is, t.reached));
-        rise = λ e. rise_of w.history.items key e b.0.1.in_turn;
+        rise = λ e. rise_of w.history.items key e b.1.in_turn;
       }
 
-  entry_origin : (x : Entry) → In es x → Origin w.frames x
-  entry_origin x i = let r = known.runner x i in each_at (NodeOrigins w.frames) w.replicas r.0 r.1 b.0.0.0.1.1.books r.2 x r.4
+  pub entry_origin : (x : Entry) → In es x → Origin w.frames x
+  entry_origin x i = let r = known.runner x i in each_at (NodeOrigins w.frames) w.replicas r.0 r.1 b.0.0.1.1.books r.2 x r.4
 
   -- an epoch past a live slot's, or past that of a Grant that is taken in time, isn't committed
-  live_epoch : (n nonce e expiry : ℕ) (key : Key) (node : SwitchNode) (slot : Slot) (f : Flow) → slice_get w.switches n ≡ Some node → node.runs ≡ true → slot_at node.state key ≡ Some slot → slot.lease ≡ Held nonce e expiry → node.clock < expiry →
+  pub live_epoch : (n nonce e expiry : ℕ) (key : Key) (node : SwitchNode) (slot : Slot) (f : Flow) → slice_get w.switches n ≡ Some node → node.runs ≡ true → slot_at node.state key ≡ Some slot → slot.lease ≡ Held nonce e expiry → node.clock < expiry →
       flow_of app.cell_count key es ≡ Some f → f.epoch ≤ e
   live_epoch n nonce e expiry key node slot f at up found is live flow =
       elim (cases_lt e f.epoch) [
@@ -220,15 +230,15 @@ module _ (app : Application) (w : World) (b : Based app w) (o : OverLate w) wher
             let there : In (entries_of r.1.book) (Entry.Grant key e n node.state.inc nonce) = in_prefix es (entries_of r.1.book) _ (known.within r.0 r.1 r.2 r.3) own in
             let old : is_young w.terms.t_switch since node.clock ≡ false =
             o.late r.0 n e f.epoch key r.1 node slot (Entry.Grant key f.epoch f.switch f.inc f.nonce) nonce since (record { at = r.2; up = r.3 }) r.4 (refl, refl) above (record { at = at; found = found }) is there in
-            absurd (both_ways _ old (subst (λ x. is_young x.t_switch since node.clock ≡ true) (b.0.0.1.1.switches n node at) young))
+            absurd (both_ways _ old (subst (λ x. is_young x.t_switch since node.clock ≡ true) (b.0.1.1.switches n node at) young))
         | inr le ↦ le
       ]
 
   -- ---- a Grant that is taken in time
 
-  told_grant : (n inc nonce epoch : ℕ) (from to : Node) (key : Key) (cells : List ℕ) (load : Option Carried) → Comes w (Node.Switch n) (msg from to (Body.Grant inc nonce epoch key cells load)) → GrantedIn app.cell_count es n inc nonce epoch key cells
+  pub told_grant : (n inc nonce epoch : ℕ) (from to : Node) (key : Key) (cells : List ℕ) (load : Option Carried) → Comes w (Node.Switch n) (msg from to (Body.Grant inc nonce epoch key cells load)) → GrantedIn app.cell_count es n inc nonce epoch key cells
   told_grant n inc nonce epoch from to key cells load comes =
-      let r : Reply app.cell_count es to (Body.Grant inc nonce epoch key cells load) = each_at (λ (m : Msg). Reply app.cell_count es m.to m.body) w.frames comes.1.0 _ b.0.0.0.0.0.1 comes.1.1 in
+      let r : Reply app.cell_count es to (Body.Grant inc nonce epoch key cells load) = each_at (λ (m : Msg). Reply app.cell_count es m.to m.body) w.frames comes.1.0 _ b.0.0.0.0.1 comes.1.1 in
       subst (λ (x : Node). ToSwitch (λ s. GrantedIn app.cell_count es s inc nonce epoch key cells) x) comes.0 r
 
   module _ (n nonce since epoch : ℕ) (key : Key) (cells : List ℕ) (node : SwitchNode) (slot : Slot) (at : slice_get w.switches n ≡ Some node) (up : node.runs ≡ true) (found : slot_at node.state key ≡ Some slot) (is : slot.lease ≡ Asking nonce since)
@@ -247,12 +257,16 @@ module _ (app : Application) (w : World) (b : Based app w) (o : OverLate w) wher
         let r = known.runner _ owner in
         record { n = n; node = node; slot = slot; nonce = nonce; first = since; r = r.0; replica = r.1; at = at; found = found; asking = is; here = r.2; up = r.3; granted = r.4 }
 
+    -- no number of the epoch was sent
+    pub no_numbers : (m inc k : ℕ) → PutFrame w.frames m inc key epoch k → ⊥
+    no_numbers m inc k p = (b.1.numbers m inc epoch k key p).awaited awaited
+
     no_puts : (k : ℕ) (delta : Delta) → SentPut w.frames key epoch k delta → ⊥
-    no_puts k delta q = let p = put_frame epoch k key delta q in (b.0.1.numbers p.0 p.1.0 epoch k key p.1.1).awaited awaited
+    no_puts k delta q = let p = put_frame epoch k key delta q in (b.1.numbers p.0 p.1.0 epoch k key p.1.1).awaited awaited
 
     no_item : (j : Journaled) → In w.history.items j → j.item.key ≡ key → j.item.epoch ≡ epoch → ⊥
     no_item j i of present =
-        (b.0.1.item_numbers j i).awaited (subst (λ x. Awaited w.switches w.replicas x j.item.epoch) (sym of) (subst (λ x. Awaited w.switches w.replicas key x) (sym present) awaited))
+        (b.1.item_numbers j i).awaited (subst (λ x. Awaited w.switches w.replicas x j.item.epoch) (sym of) (subst (λ x. Awaited w.switches w.replicas key x) (sym present) awaited))
 
     no_items : journal_in key w.history.items epoch ≡ []
     no_items = none_case (journal_in key w.history.items epoch) (λ j i. i)
@@ -272,7 +286,9 @@ module _ (app : Application) (w : World) (b : Based app w) (o : OverLate w) wher
     only_grant (Entry.Put k e number delta) i h =
         let p : PutSent w.frames k e number delta = entry_origin (Entry.Put k e number delta) i in
         absurd (no_puts number delta (record { msg = p.msg; there = p.there; inc = p.inc; load = p.load; body_is = p.body_is ∙ same_put p.inc e number k delta p.load h.0 h.1 }))
-    only_grant (Entry.Snap k e round values) i h = absurd (no_snap w.frames k e round values b.1.1.1 (entry_origin (Entry.Snap k e round values) i))
+    only_grant (Entry.Snap k e round values) i h =
+        let p = snap_frame e round k values (entry_origin (Entry.Snap k e round values) i) in
+        absurd (no_numbers p.0 p.1.0 round (subst (λ (x : Key). PutFrame w.frames p.0 p.1.0 x epoch round) h.0 (subst (λ x. PutFrame w.frames p.0 p.1.0 k x round) h.1 p.1.1)))
 
     last_is : granted.flow.last ≡ 0
     last_is =
@@ -323,7 +339,7 @@ module _ (app : Application) (w : World) (b : Based app w) (o : OverLate w) wher
         ∙ (fold-append (flow_step app.cell_count key) None told.front told.prefix.rest
         ∙ (ap (λ u. flow_from app.cell_count key u told.prefix.rest) told.flow_is ∙ flow_stays app.cell_count key (Some sent_flow) told.prefix.rest rest_fits other_key))
 
-    grant_said : GrantSaid app w n node.state.inc key epoch cells
+    pub grant_said : GrantSaid app w n node.state.inc key epoch cells
     grant_said =
         record {
           flow = granted.flow;
@@ -336,12 +352,18 @@ module _ (app : Application) (w : World) (b : Based app w) (o : OverLate w) wher
           owner = record { nonce = nonce; there = owner };
         }
 
-  strict_at : (n : ℕ) (node : SwitchNode) → slice_get w.switches n ≡ Some node → node.state.terms.mode ≡ Mode.Strict
-  strict_at n node at = ap (λ t. t.mode) (b.0.0.1.1.switches n node at) ∙ b.0.0.1.1.world
+-- ---- in strict mode
 
-  reached_last : (n inc e last : ℕ) (key : Key) (l : Lease) (cs : List Copy) → Rests es n inc key l last cs → epoch_of l ≡ Some e → cs ≡ [] → AckedIn es e last key
-  reached_last n inc e last key (Held nonce epoch expiry) cs h is none = let same : epoch ≡ e = cc in subst (λ x. AckedIn es x last key) same (h.1 none)
-  reached_last n inc e last key (Lapsed nonce epoch expiry) cs h is none = let same : epoch ≡ e = cc in subst (λ x. AckedIn es x last key) same (h.1 none)
+module _ (app : Application) (w : World) (b : Based app w) (o : OverLate w) where
+  abbrev committed : List Entry
+  committed = committed_of w.replicas
+
+  strict_at : (n : ℕ) (node : SwitchNode) → slice_get w.switches n ≡ Some node → node.state.terms.mode ≡ Mode.Strict
+  strict_at n node at = ap (λ t. t.mode) (b.0.0.1.1.switches n node at) ∙ b.1.1.0.1
+
+  reached_last : (n inc e last : ℕ) (key : Key) (l : Lease) (cs : List Copy) → Rests committed n inc key l last cs → epoch_of l ≡ Some e → cs ≡ [] → AckedIn committed e last key
+  reached_last n inc e last key (Held nonce epoch expiry) cs h is none = let same : epoch ≡ e = cc in subst (λ x. AckedIn committed x last key) same (h.1 none)
+  reached_last n inc e last key (Lapsed nonce epoch expiry) cs h is none = let same : epoch ≡ e = cc in subst (λ x. AckedIn committed x last key) same (h.1 none)
   reached_last n inc e last key Idle cs h is none = cc
   reached_last n inc e last key (Asking nonce since) cs h is none = cc
 
@@ -349,23 +371,23 @@ module _ (app : Application) (w : World) (b : Based app w) (o : OverLate w) wher
   cell_facts =
       record {
         books = b.0.0.0.0.0.0.0;
-        fits = known.committed_fits;
-        known = items_known;
+        fits = (known app w b.0 o).committed_fits;
+        known = items_known app w b.0 o;
         puts_granted = λ e k key delta q.
-            let p = put_frame e k key delta q in
-            let g = b.0.1.granted p.0 p.1.0 e k key p.1.1 in granted_to app.cell_count key es e p.0 p.1.0 g.nonce (known.committed_fits key) g.there;
-        puts_reached = λ n e k key node slot delta at found leased q. let p = put_frame e k key delta q in (b.0.1.numbers p.0 p.1.0 e k key p.1.1).reached n node slot at found leased;
+            let p = put_frame app w b.0 o e k key delta q in
+            let g = b.0.1.granted p.0 p.1.0 e k key p.1.1 in granted_to app.cell_count key committed e p.0 p.1.0 g.nonce ((known app w b.0 o).committed_fits key) g.there;
+        puts_reached = λ n e k key node slot delta at found leased q. let p = put_frame app w b.0 o e k key delta q in (b.0.1.numbers p.0 p.1.0 e k key p.1.1).reached n node slot at found leased;
         slots_granted = λ n e key node slot at found leased.
-            let g = known.leased n node key slot e at found leased in (granted_to app.cell_count key es e n node.state.inc g.nonce (known.committed_fits key) g.there, record { nonce = g.nonce; there = g.there });
+            let g = (known app w b.0 o).leased n node key slot e at found leased in (granted_to app.cell_count key committed e n node.state.inc g.nonce ((known app w b.0 o).committed_fits key) g.there, record { nonce = g.nonce; there = g.there });
         says = b.0.0.1.0.0.1;
         strict = strict_at;
-        live = λ n nonce e expiry key node slot f at up found is live flow. live_epoch n nonce e expiry key node slot f at up found is live flow;
+        live = λ n nonce e expiry key node slot f at up found is live flow. live_epoch app w b.0 o n nonce e expiry key node slot f at up found is live flow;
         grants = λ n nonce since epoch from to key cells load node slot at up found is young comes.
-            grant_said n nonce since epoch key cells node slot at up found is young (told_grant n node.state.inc nonce epoch from to key cells load comes);
+            grant_said app w b.0 o n nonce since epoch key cells node slot at up found is young (told_grant app w b.0 o n node.state.inc nonce epoch from to key cells load comes);
         acked = λ n e key node slot at found leased none.
-            reached_last n node.state.inc e slot.last key slot.lease (copies_of node key) (subst (λ x. SlotRests es n node.state.inc key x (copies_of node key)) found ((b.0.0.0.0.1 n node at key).rests (strict_at n node at))) leased none;
+            reached_last n node.state.inc e slot.last key slot.lease (copies_of node key) (subst (λ x. SlotRests committed n node.state.inc key x (copies_of node key)) found ((b.0.0.0.0.1.0 n node at key).rests (strict_at n node at))) leased none;
         carried = b.1.0.1;
         once = b.1.0.0;
-        entries = entry_origin;
+        entries = entry_origin app w b.0 o;
         snapless = b.1.1.1;
       }

@@ -134,7 +134,7 @@ module _ (app : Application) (w : World) (l : Laid app w) (o : OverLate w) (s : 
       (l.0.0.1.item_numbers j o.0).awaited (subst (λ x. Awaited w.switches w.replicas x j.item.epoch) (sym o.1.0) (subst (λ x. Awaited w.switches w.replicas key x) (sym o.1.1) a)))
 
   unsent : (key : Key) (epoch k : ℕ) (delta : Delta) → Awaited w.switches w.replicas key epoch → SentPut w.frames key epoch k delta → ⊥
-  unsent key epoch k delta a q = let p = put_frame app w l.0 o epoch k key delta q in (l.0.0.1.numbers p.0 p.1.0 epoch k key p.1.1).awaited a
+  unsent key epoch k delta a q = let p = put_frame app w l.0.0 o epoch k key delta q in (l.0.0.1.numbers p.0 p.1.0 epoch k key p.1.1).awaited a
 
   last_copied : (n epoch : ℕ) (key : Key) (node : SwitchNode) (slot : Slot) (c : Copy) → LeasedAt w n key epoch node slot → In (copies_of node key) c → (d : Copy) × (In (copies_of node key) d × (d.number ≡ slot.last))
   last_copied n epoch key node slot c at i = last_case (subst (λ o. CopiesHaveLastAt o (copies_of node key)) at.slot_is.found (copied n key node at.slot_is.at))

@@ -1,5 +1,5 @@
--- First sendings over every run in strict mode.
-use Rattle.std.proofs.Common.{◌≡◌, ◌≢◌, ◌⊎◌, inl, inr, ℕ, ◌+◌, List, [], ◌∷◌, ◌++◌, drop, length, map, Option, Some, None, refl, sym, ap, ◌∙◌, subst, true, slice_get, arith, append-nil, zero, suc, false}
+-- First sendings over every run.
+use Rattle.std.proofs.Common.{◌≡◌, ◌≢◌, ◌⊎◌, inl, inr, ℕ, ◌+◌, List, [], ◌∷◌, ◌++◌, drop, length, map, Option, Some, None, refl, sym, ap, subst, true, slice_get, arith, append-nil, zero, suc, false}
 use Rattle.rp_base.specs.declared.node.Node.{Node}
 use Rattle.proto_data.specs.declared.message.Msg.{Msg}
 use Rattle.proto_data.specs.declared.message.Body.{Body}
@@ -23,7 +23,6 @@ use Rattle.proto_safety.specs.Books.{In, committed_of}
 use Rattle.proto_safety.specs.LeaseLaws.{Request, First, IsEntryOf}
 use Rattle.proto_safety.specs.Firsts.{request_of}
 use Rattle.proto_safety.proofs.FirstSendings.{Made}
-use Rattle.proto_safety.proofs.StrictSends.{NoSnap}
 use Rattle.proto_safety.proofs.SlotFirsts.{NodeFirsts}
 use Rattle.proto_safety.proofs.Places.{at_set, at_changed}
 use Rattle.proto_safety.proofs.Lists.{each_append, length_changed_at, each_map, each_weaker, each_at}
@@ -36,7 +35,7 @@ use Rattle.proto_safety.proofs.Tables.{same_some}
 use Rattle.proto_safety.proofs.StoreStands.{book_after}
 use Rattle.proto_safety.proofs.StoreBooks.{SentBooks}
 use Rattle.proto_safety.proofs.BooksStep.{step_sent}
-use Rattle.proto_safety.proofs.SwitchSends.{IsRequest, FromSwitch}
+use Rattle.proto_safety.proofs.SwitchSends.{IsRequest}
 use Rattle.proto_safety.proofs.WorldOrigins.{NodeOrigins, FrameOrigin, from_is_switch}
 use Rattle.proto_safety.proofs.Ground.{Ground, ground_kept, known_of}
 use Rattle.proto_safety.proofs.WorldPutsKept.{PutsOf, puts_kept, told_grant, fed_grant}
@@ -91,7 +90,7 @@ NoRequest m = (n : ℕ) (r : Key × Request) → m.from ≡ Node.Switch n → re
 
 more_was : (frames ms : List Msg) (f : First) → WasSent frames f → WasSent (frames ++ ms) f
 more_was frames ms f (by_ask is a) = by_ask is (record { msg = a.msg; there = in_front frames ms a.msg a.there; from_is = a.from_is; load = a.load; body_is = a.body_is })
-more_was frames ms f (by_put is a) = by_put is (record { msg = a.msg; there = in_front frames ms a.msg a.there; from_is = a.from_is; delta = a.delta; load = a.load; body_is = a.body_is })
+more_was frames ms f (by_put is a) = by_put is (record { msg = a.msg; there = in_front frames ms a.msg a.there; from_is = a.from_is; number_in = a.number_in })
 
 asked_more : (fs : List First) (frames ms : List Msg) → Each NoRequest ms → ((m : Msg) (n : ℕ) (r : Key × Request) → In frames m → m.from ≡ Node.Switch n → request_of m.body ≡ Some r → Made fs n r.0 r.1) →
     (m : Msg) (n : ℕ) (r : Key × Request) → In (frames ++ ms) m → m.from ≡ Node.Switch n → request_of m.body ≡ Some r → Made fs n r.0 r.1
@@ -102,17 +101,17 @@ asked_more fs frames ms none h m n r i from is = frame_case (in_append frames ms
     frame_case (inr j) = absurd (each_in NoRequest ms m none j n r from is)
 
 -- a replica's message makes none
-stored_none : (r : Replica) (es : List Entry) (from to : Node) (body : Body) → SentBooks r es from to body → (request_of body ≡ None) × NoSnap body
+stored_none : (r : Replica) (es : List Entry) (from to : Node) (body : Body) → SentBooks r es from to body → request_of body ≡ None
 stored_none r es from to (Body.Ask inc nonce key load) s = absurd s
 stored_none r es from to (Body.Put inc epoch number key delta load) s = absurd s
 stored_none r es from to (Body.Snap inc epoch round key chunk chunks cells) s = absurd s
-stored_none r es from to (Body.Grant inc nonce epoch key cells load) s = (refl, tt)
-stored_none r es from to (Body.Busy inc nonce key mark) s = (refl, tt)
-stored_none r es from to (Body.Ack inc epoch upto key load) s = (refl, tt)
-stored_none r es from to (Body.Deny inc epoch key) s = (refl, tt)
-stored_none r es from to (Body.Forward config index entry load) s = (refl, tt)
-stored_none r es from to (Body.Have index) s = (refl, tt)
-stored_none r es from to (Body.Echo of load) s = (refl, tt)
+stored_none r es from to (Body.Grant inc nonce epoch key cells load) s = refl
+stored_none r es from to (Body.Busy inc nonce key mark) s = refl
+stored_none r es from to (Body.Ack inc epoch upto key load) s = refl
+stored_none r es from to (Body.Deny inc epoch key) s = refl
+stored_none r es from to (Body.Forward config index entry load) s = refl
+stored_none r es from to (Body.Have index) s = refl
+stored_none r es from to (Body.Echo of load) s = refl
 stored_none r es from to (Body.Config config) s = absurd s
 
 never_some : (m : Msg) → request_of m.body ≡ None → NoRequest m
@@ -120,7 +119,7 @@ never_some m none n r from is = absurd cc
 
 -- ---- a replica's step
 
-module _ (app : Application) (w : World) (fs : List First) (n : ℕ) (node : ReplicaNode) (input : Input) (at : slice_get w.replicas n ≡ Some node) (sent : Each (λ (m : Msg). (request_of m.body ≡ None) × NoSnap m.body) (store_step node.state node.clock input).1.sent) (h : FirstsHold fs w) where
+module _ (app : Application) (w : World) (fs : List First) (n : ℕ) (node : ReplicaNode) (input : Input) (at : slice_get w.replicas n ≡ Some node) (sent : Each (λ (m : Msg). request_of m.body ≡ None) (store_step node.state node.clock input).1.sent) (h : FirstsHold fs w) where
   abbrev after : World
   after = replica_moved w n node (store_step node.state node.clock input)
 
@@ -166,9 +165,7 @@ module _ (app : Application) (w : World) (fs : List First) (n : ℕ) (node : Rep
         past = h.past;
         sent = λ f i. more_was w.frames (store_step node.state node.clock input).1.sent f (h.sent f i);
         asked = asked_more fs w.frames (store_step node.state node.clock input).1.sent
-            (each_weaker (λ (m : Msg). (request_of m.body ≡ None) × NoSnap m.body) NoRequest (store_step node.state node.clock input).1.sent (λ m k. never_some m k.0) sent) h.asked;
-        no_snaps = each_append (λ (m : Msg). NoSnap m.body) w.frames (store_step node.state node.clock input).1.sent h.no_snaps
-            (each_weaker (λ (m : Msg). (request_of m.body ≡ None) × NoSnap m.body) (λ (m : Msg). NoSnap m.body) (store_step node.state node.clock input).1.sent (λ m k. k.1) sent);
+            (each_weaker (λ (m : Msg). request_of m.body ≡ None) NoRequest (store_step node.state node.clock input).1.sent (λ m k. never_some m k) sent) h.asked;
         aged = aged_after;
       }
 
@@ -178,13 +175,13 @@ abbrev FirstsAt : List First → ℕ → SwitchNode → Type 0
 FirstsAt fs n node = NodeFirsts fs n node.state.inc node.state.slots node.state.copies
 
 booted_firsts : (fs : List First) (w : World) (n : ℕ) (s : SwitchNode) → FirstsAt fs n s → FirstsAt fs n (record s { runs = true; state = open_switch s.state.me (s.state.inc + 1) w.terms w.config })
-booted_firsts fs w n s h = record { asking = λ key slot nonce first at is. absurd cc; copied = λ key slot epoch c at is i of. absurd cc }
+booted_firsts fs w n s h = record { asking = λ key slot nonce first at is. absurd cc; copied = λ key slot epoch c at is i of. absurd cc; rounds = λ key slot epoch r at is runs. absurd cc }
 
-announced_none : (w : World) → Each (λ (m : Msg). NoRequest m × NoSnap m.body) (announcements w)
+announced_none : (w : World) → Each NoRequest (announcements w)
 announced_none w =
-    each_append (λ (m : Msg). NoRequest m × NoSnap m.body) (map (λ n. config_msg w (Node.Switch n)) (running_switches w)) _
-    (each_map (λ (m : Msg). NoRequest m × NoSnap m.body) (λ n. config_msg w (Node.Switch n)) (running_switches w) (λ n. ((λ k r from is. let no : None ≡ Some r = is in cc), tt)))
-    (each_map (λ (m : Msg). NoRequest m × NoSnap m.body) (λ n. config_msg w (Node.Replica n)) (running_replicas w) (λ n. ((λ k r from is. let no : None ≡ Some r = is in cc), tt)))
+    each_append NoRequest (map (λ n. config_msg w (Node.Switch n)) (running_switches w)) _
+    (each_map NoRequest (λ n. config_msg w (Node.Switch n)) (running_switches w) (λ n k r from is. let no : None ≡ Some r = is in cc))
+    (each_map NoRequest (λ n. config_msg w (Node.Replica n)) (running_replicas w) (λ n k r from is. let no : None ≡ Some r = is in cc))
 
 advanced_firsts : (app : Application) (w : World) (fs : List First) (by : List ℕ) → Fits w (Advances by) → FirstsHold fs w → FirstsHold fs (advanced w by)
 advanced_firsts app w fs by fits h =
@@ -193,7 +190,6 @@ advanced_firsts app w fs by fits h =
       past = λ f i. before_advanced w.switches by f.switch f.moment (h.past f i);
       sent = h.sent;
       asked = h.asked;
-      no_snaps = h.no_snaps;
       aged = λ f r node b i at j is.
           let old = advanced_at w.replicas (drop (length w.switches) by) r node at in
           let e : length (advanced_switches w.switches by) ≡ length w.switches = length_advanced_switches w.switches by in
@@ -207,7 +203,6 @@ changed_firsts w fs n g same keeps h =
       past = λ f i. before_changed w.switches n g same f.switch f.moment (h.past f i);
       sent = h.sent;
       asked = h.asked;
-      no_snaps = h.no_snaps;
       aged = λ f r node b i at j is.
           let e : length (changed_at w.switches n g) ≡ length w.switches = length_changed_at w.switches n g in
           rw (e, one_switch w n g same) (h.aged f r node b i at j is);
@@ -220,7 +215,6 @@ stopped_firsts w fs n h =
       past = h.past;
       sent = h.sent;
       asked = h.asked;
-      no_snaps = h.no_snaps;
       aged = λ f r node b i at j is.
           let old = was r node b at j in
           rw (one_replica w n (λ (r : ReplicaNode). record r { runs = false }) (λ x. refl)) (h.aged f r old.0 b i old.1 old.2 is);
@@ -241,55 +235,66 @@ Settled cells w = Ground cells w × PutsOf w
 pub settled_kept : (app : Application) → Keeps app (Settled app.cell_count)
 settled_kept app = keeps_both app (Ground app.cell_count) PutsOf (ground_kept app) (puts_kept app)
 
+is_request : (b : Body) (r : Key × Request) → request_of b ≡ Some r → IsRequest b
+is_request (Body.Ask inc nonce key load) r is = tt
+is_request (Body.Put inc epoch number key delta load) r is = tt
+is_request (Body.Snap inc epoch round key chunk chunks cells) r is = tt
+is_request (Body.Grant inc nonce epoch key cells load) r is = absurd cc
+is_request (Body.Busy inc nonce key mark) r is = absurd cc
+is_request (Body.Ack inc epoch upto key load) r is = absurd cc
+is_request (Body.Deny inc epoch key) r is = absurd cc
+is_request (Body.Forward config index entry load) r is = absurd cc
+is_request (Body.Have index) r is = absurd cc
+is_request (Body.Echo of load) r is = absurd cc
+is_request (Body.Config config) r is = absurd cc
+
 -- where frames and entries come from
 pub sources_of : (cells : ℕ) (w : World) → Ground cells w → Sources w
 sources_of cells w g =
     record {
       origin = λ r node b at i. each_at (NodeOrigins w.frames) w.replicas r node g.0.1.1.books at b.entry (to_map (λ (x : Booked). x.entry) node.book b i);
-      sender = λ m inc e k key delta load i is. (switch_of m.from, from_is_switch m.from (subst (λ (b : Body). IsRequest b → FromSwitch m.from) is (each_in (FrameOrigin w.frames) w.frames m g.0.1.1.frames i).from tt));
+      sender = λ m r i is. (switch_of m.from, from_is_switch m.from ((each_in (FrameOrigin w.frames) w.frames m g.0.1.1.frames i).from (is_request m.body r is)));
     }
 
 -- the same facts of a world that differs in its event and its history
 refed : (fs : List First) (w : World) (p : Packet) → FirstsHold fs w → FirstsHold fs (with_fed w p)
-refed fs w p h = record { nodes = h.nodes; past = h.past; sent = h.sent; asked = h.asked; no_snaps = h.no_snaps; aged = h.aged }
+refed fs w p h = record { nodes = h.nodes; past = h.past; sent = h.sent; asked = h.asked; aged = h.aged }
 
 pub firsts_kept_by : (app : Application) → KeepsFirsts app (Settled app.cell_count) FirstsHold
 firsts_kept_by app =
     record {
-      counts = λ w fs g h. record { nodes = h.nodes; past = h.past; sent = h.sent; asked = h.asked; no_snaps = h.no_snaps; aged = h.aged };
-      passes = λ w fs i g h. record { nodes = h.nodes; past = h.past; sent = h.sent; asked = h.asked; no_snaps = h.no_snaps; aged = h.aged };
+      counts = λ w fs g h. record { nodes = h.nodes; past = h.past; sent = h.sent; asked = h.asked; aged = h.aged };
+      passes = λ w fs i g h. record { nodes = h.nodes; past = h.past; sent = h.sent; asked = h.asked; aged = h.aged };
       feeds = λ w fs n node p at up mark g h.
           let step = switch_step app node.state node.clock (Input.Packet p) in
           let later = (settled_kept app).feeds w n node p at up mark g in
-          moved_firsts app w fs n node (Input.Packet p) at (ap (λ t. t.mode) (g.0.1.1.switches n node at) ∙ g.0.1.1.world) (known_of app.cell_count w g.0) (known_of app.cell_count (switch_moved (with_fed w p) n node step) later.0)
+          moved_firsts app w fs n node (Input.Packet p) at (known_of app.cell_count w g.0) (known_of app.cell_count (switch_moved (with_fed w p) n node step) later.0)
           (fed_grant (committed_of w.replicas) n node.state.inc p) (λ key j a. ((g.0.1.0.1 n node at).flows key).sent j a) (sources_of app.cell_count w g.0) g.1 _ later.1 h
           (switch_moved (with_fed w p) n node step) refl refl refl refl;
       switches = λ w fs n node input at up from g h.
           let step = switch_step app node.state node.clock input in
           let later = (settled_kept app).switches w n node input at up from g in
-          moved_firsts app w fs n node input at (ap (λ t. t.mode) (g.0.1.1.switches n node at) ∙ g.0.1.1.world) (known_of app.cell_count w g.0) (known_of app.cell_count (switch_moved w n node step) later.0)
+          moved_firsts app w fs n node input at (known_of app.cell_count w g.0) (known_of app.cell_count (switch_moved w n node step) later.0)
           (told_grant app w n node input from g.0) (λ key j a. ((g.0.1.0.1 n node at).flows key).sent j a) (sources_of app.cell_count w g.0) g.1 _ later.1 h
           (switch_moved w n node step) refl refl refl refl;
       replicas = λ w fs n node input at up from g h.
           let step = store_step node.state node.clock input in
           let stands = (g.0.0.0.0.0.0.1.nodes n node at).stands in
           stored_firsts app w fs n node input at
-          (each_weaker (λ (m : Msg). SentBooks step.0 (entries_of (book_after node.clock w.event node.book step.1.applied)) m.from m.to m.body) (λ (m : Msg). (request_of m.body ≡ None) × NoSnap m.body) step.1.sent
+          (each_weaker (λ (m : Msg). SentBooks step.0 (entries_of (book_after node.clock w.event node.book step.1.applied)) m.from m.to m.body) (λ (m : Msg). request_of m.body ≡ None) step.1.sent
           (λ m s. stored_none step.0 (entries_of (book_after node.clock w.event node.book step.1.applied)) m.from m.to m.body s) (step_sent node.state node.book node.clock w.event input stands)) h;
       advances = λ w fs by fits g h. advanced_firsts app w fs by fits h;
       stops_switch = λ w fs n fits g h. changed_firsts w fs n (λ (s : SwitchNode). record s { runs = false }) (λ x. refl) (λ m x k. k) h;
       stops_replica = λ w fs n fits g h. stopped_firsts w fs n h;
       boots = λ w fs n fits g h. changed_firsts w fs n (λ (s : SwitchNode). record s { runs = true; state = open_switch s.state.me (s.state.inc + 1) w.terms w.config }) (λ x. refl) (booted_firsts fs w) h;
       detects_switch = λ w fs n fits g h. changed_firsts w fs n (λ (s : SwitchNode). record s { believed = s.runs }) (λ x. refl) (λ m x k. k) h;
-      detects_replica = λ w fs n fits g h. record { nodes = h.nodes; past = h.past; sent = h.sent; asked = h.asked; no_snaps = h.no_snaps; aged = h.aged };
+      detects_replica = λ w fs n fits g h. record { nodes = h.nodes; past = h.past; sent = h.sent; asked = h.asked; aged = h.aged };
       announces = λ w fs g h.
           record {
             nodes = h.nodes;
             past = h.past;
             sent = λ f i. more_was w.frames (announcements w) f (h.sent f i);
-            asked = asked_more fs w.frames (announcements w) (each_weaker (λ (m : Msg). NoRequest m × NoSnap m.body) NoRequest (announcements w) (λ m k. k.0) (announced_none w)) h.asked;
-            no_snaps = each_append (λ (m : Msg). NoSnap m.body) w.frames (announcements w) h.no_snaps
-                (each_weaker (λ (m : Msg). NoRequest m × NoSnap m.body) (λ (m : Msg). NoSnap m.body) (announcements w) (λ m k. k.1) (announced_none w));
+            asked = asked_more fs w.frames (announcements w) (announced_none w) h.asked;
             aged = h.aged;
           };
     }

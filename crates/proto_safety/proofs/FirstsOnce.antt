@@ -5,7 +5,7 @@ use Rattle.rp_base.specs.declared.node.Node.{Node}
 use Rattle.rp_base.specs.declared.event.Event.{Event}
 use Rattle.proto_data.specs.declared.message.Msg.{Msg}
 use Rattle.proto_data.specs.declared.message.Input.{Input}
-use Rattle.proto_data.specs.declared.terms.Mode.{Mode}
+use Rattle.proto_safety.proofs.WorldPuts.{number_request}
 use Rattle.rp_app.specs.Application.{Application}
 use Rattle.proto_model.specs.Effects.{packet_fed, frame_passed}
 use Rattle.proto_model.specs.Feeds.{Pairwise}
@@ -22,7 +22,7 @@ use Rattle.proto_safety.proofs.FirstSendings.{Made, SentNow, sending, stays, com
 use Rattle.proto_safety.proofs.FirstsInduction.{firsts_kept}
 use Rattle.proto_safety.proofs.FirstsKept.{Settled, settled_kept, firsts_kept_by}
 use Rattle.proto_safety.proofs.HandedKept.{opened_firsts}
-use Rattle.proto_safety.proofs.LegalRun.{opened_laid, laid_stands}
+use Rattle.proto_safety.proofs.LegalRun.{opened_standing}
 use Rattle.proto_safety.proofs.WorldFirsts.{FirstsHold, WasSent, by_ask, by_put}
 use Rattle.proto_safety.proofs.Lists.{each_all}
 
@@ -69,11 +69,11 @@ run_once app w fs (e ∷ es) h = run_once app (world_step app w e).0 (event_firs
 
 was_request : (frames : List Msg) (f : First) → WasSent frames f → RequestSent frames f
 was_request frames f (by_ask is a) = record { msg = a.msg; there = a.there; from_is = a.from_is; request_is = ap request_of a.body_is ∙ ap (λ (x : Request). Some (f.key, x)) (sym is) }
-was_request frames f (by_put is p) = record { msg = p.msg; there = p.there; from_is = p.from_is; request_is = ap request_of p.body_is ∙ ap (λ (x : Request). Some (f.key, x)) (sym is) }
+was_request frames f (by_put is p) = record { msg = p.msg; there = p.there; from_is = p.from_is; request_is = number_request p.msg.body _ _ _ f.key p.number_in ∙ ap (λ (x : Request). Some (f.key, x)) (sym is) }
 
-pub are_firsts : (app : Application) (setup : Setup) → setup.terms.mode ≡ Mode.Strict → (events : List Event) → AreFirsts (firsts_of app setup events) (world_after app (opened app.cell_count setup) events).frames
-are_firsts app setup strict events =
-    let start : Settled app.cell_count (opened app.cell_count setup) = (laid_stands app (opened app.cell_count setup) (opened_laid app setup strict)).0 in
+pub are_firsts : (app : Application) (setup : Setup) (events : List Event) → AreFirsts (firsts_of app setup events) (world_after app (opened app.cell_count setup) events).frames
+are_firsts app setup events =
+    let start : Settled app.cell_count (opened app.cell_count setup) = (opened_standing app setup).0 in
     let h : FirstsHold (firsts_of app setup events) (world_after app (opened app.cell_count setup) events) = firsts_kept app (Settled app.cell_count) FirstsHold (settled_kept app) (firsts_kept_by app) events (opened app.cell_count setup) [] start (opened_firsts app setup) in
     record {
       all = λ m s key request i from is.

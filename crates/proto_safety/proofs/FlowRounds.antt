@@ -1,6 +1,6 @@
 -- In snapshot mode: a leased slot's Grant is committed; a running round has the slot's last number, and without one the last number is committed.
 use Rattle.std.proofs.Common.{◌≡◌, ℕ, ◌+◌, List, [], Option, Some, None, arith, refl, sym, ◌∙◌, subst, true, false, Bool, eqb-true, ap}
-use Rattle.std.specs.Prelude.{option_map, if◌then◌else◌, nat_le, nat_lt, length, drop}
+use Rattle.std.specs.Prelude.{◌-◌, option_map, if◌then◌else◌, nat_le, nat_lt, length, drop}
 use Rattle.std.proofs.lemmas.Bool.{false≢true}
 use Rattle.proto_data.specs.declared.terms.Mode.{Mode}
 use Rattle.proto_data.specs.declared.message.Entry.{Entry}
@@ -41,9 +41,9 @@ rests_later : (old new : List Entry) (n inc : ℕ) (key : Key) (l : Lease) (last
 rests_later old new n inc key Idle last r p h = h
 rests_later old new n inc key (Asking nonce first) last r p h = h
 rests_later old new n inc key (Held nonce epoch expiry) last None p h = (in_prefix old new _ p h.0, acked_later old new key epoch last p h.1)
-rests_later old new n inc key (Held nonce epoch expiry) last (Some r) p h = (in_prefix old new _ p h.0, h.1)
+rests_later old new n inc key (Held nonce epoch expiry) last (Some r) p h = (in_prefix old new _ p h.0, h.1, acked_later old new key epoch (last - 1) p h.2)
 rests_later old new n inc key (Lapsed nonce epoch expiry) last None p h = (in_prefix old new _ p h.0, acked_later old new key epoch last p h.1)
-rests_later old new n inc key (Lapsed nonce epoch expiry) last (Some r) p h = (in_prefix old new _ p h.0, h.1)
+rests_later old new n inc key (Lapsed nonce epoch expiry) last (Some r) p h = (in_prefix old new _ p h.0, h.1, acked_later old new key epoch (last - 1) p h.2)
 
 slot_later : (old new : List Entry) (n inc : ℕ) (key : Key) (o : Option Slot) → IsPrefix old new → SlotRounds old n inc key o → SlotRounds new n inc key o
 slot_later old new n inc key None p h = tt
@@ -71,10 +71,10 @@ granted_of es n inc key nonce epoch expiry last None h = h.0
 granted_of es n inc key nonce epoch expiry last (Some r) h = h.0
 
 -- a leased slot whose round is one with the last number
-with_round : (es : List Entry) (n inc : ℕ) (key : Key) (nonce epoch expiry last next : ℕ) (l : Lease) (old : Option Round) (r : Round) → l ≡ Held nonce epoch expiry → r.number ≡ next → RoundRests es n inc key l last old → RoundRests es n inc key l next (Some r)
-with_round es n inc key nonce epoch expiry last next l old r is e h =
+with_round : (es : List Entry) (n inc : ℕ) (key : Key) (nonce epoch expiry last next : ℕ) (l : Lease) (old : Option Round) (r : Round) → l ≡ Held nonce epoch expiry → r.number ≡ next → AckedIn es epoch (next - 1) key → RoundRests es n inc key l last old → RoundRests es n inc key l next (Some r)
+with_round es n inc key nonce epoch expiry last next l old r is e before h =
     let k : RoundRests es n inc key (Held nonce epoch expiry) last old = subst (λ x. RoundRests es n inc key x last old) is h in
-    subst (λ x. RoundRests es n inc key x next (Some r)) (sym is) (granted_of es n inc key nonce epoch expiry last old k, e)
+    subst (λ x. RoundRests es n inc key x next (Some r)) (sym is) (granted_of es n inc key nonce epoch expiry last old k, e, before)
 
 -- the round is done: its number, the last, is committed
 done_rests : (es : List Entry) (n inc t now at epoch upto : ℕ) (key : Key) (l : Lease) (last : ℕ) (r : Round) → has_epoch l epoch ≡ true → r.number ≡ upto → AckedIn es epoch upto key → RoundRests es n inc key l last (Some r) →
@@ -120,9 +120,12 @@ rounds_move app es n inc terms bound now input key v u items told m (round_done 
 rounds_move app es n inc terms bound now input key v u items told m (sends_chunk {slot = slot} {nonce = nonce} {epoch = epoch} {expiry = expiry} {r = r} at is running) h =
     let k : RoundRests es n inc key (Held nonce epoch expiry) slot.last (Some r) =
     subst (λ l. RoundRests es n inc key l slot.last (Some r)) is (subst (λ o. RoundRests es n inc key slot.lease slot.last o) running (slot_of es n inc key v.slot slot at h)) in
-    with_round es n inc key nonce epoch expiry slot.last slot.last slot.lease slot.round _ is k.1 (slot_of es n inc key v.slot slot at h)
+    with_round es n inc key nonce epoch expiry slot.last slot.last slot.lease slot.round _ is k.1 k.2 (slot_of es n inc key v.slot slot at h)
 rounds_move app es n inc terms bound now input key v u items told m (begins_round {slot = slot} {nonce = nonce} {epoch = epoch} {expiry = expiry} at is mode idle) h =
-    with_round es n inc key nonce epoch expiry slot.last (slot.last + 1) slot.lease slot.round _ is refl (slot_of es n inc key v.slot slot at h)
+    let k : RoundRests es n inc key (Held nonce epoch expiry) slot.last None =
+    subst (λ l. RoundRests es n inc key l slot.last None) is (subst (λ o. RoundRests es n inc key slot.lease slot.last o) idle (slot_of es n inc key v.slot slot at h)) in
+    let before : slot.last + 1 - 1 ≡ slot.last = omega arith in
+    with_round es n inc key nonce epoch expiry slot.last (slot.last + 1) slot.lease slot.round _ is refl (subst (λ m. AckedIn es epoch m key) (sym before) k.1) (slot_of es n inc key v.slot slot at h)
 
 moves_rounds : (app : Application) (es : List Entry) (n inc : ℕ) (terms : Terms) (bound now : ℕ) (input : Input) (key : Key) (v u : View) (items : List Item) → Told app.cell_count es n input → terms.mode ≡ Mode.Snapshot bound →
     Moves app inc terms now input key v items u → SlotRounds es n inc key v.slot → SlotRounds es n inc key u.slot

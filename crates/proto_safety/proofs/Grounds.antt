@@ -1,4 +1,4 @@
--- In strict mode each lease ends one term after the first sending of a request of its epoch whose entry is committed.
+-- Each lease ends one term after the first sending of a request of its epoch whose entry is committed.
 use Rattle.std.proofs.Common.{◌≡◌, ◌⊎◌, inl, inr, ℕ, ◌+◌, ◌≤◌, List, [], ◌∷◌, Option, Some, None, refl, sym, ap, ◌∙◌, subst, true, false, Bool, arith}
 use Rattle.std.specs.Prelude.{fold, filter, nat_lt, nat_le, max, if◌then◌else◌}
 use Rattle.std.proofs.lemmas.Bool.{and_parts, leb-true, leb-false}
@@ -9,8 +9,8 @@ use Rattle.proto_data.specs.declared.message.Input.{Input}
 use Rattle.proto_data.specs.declared.message.Carried.{Carried}
 use Rattle.rp_app.specs.Application.{Application}
 use Rattle.proto_model.specs.Table.{Key}
-use Rattle.proto_model.specs.Slot.{Slot, Lease, Idle, Asking, Held, Lapsed, epoch_of, lapsed_lease}
-use Rattle.proto_model.specs.SwitchState.{Copy, slot_at, is_of, is_covered, greatest_first}
+use Rattle.proto_model.specs.Slot.{Slot, Lease, Round, Idle, Asking, Held, Lapsed, epoch_of, lapsed_lease, extended}
+use Rattle.proto_model.specs.SwitchState.{Copy, slot_at, is_covered, greatest_first}
 use Rattle.proto_model.specs.SwitchActs.{acked_lease}
 use Rattle.proto_model.specs.Committed.{number_in}
 use Rattle.proto_model.specs.World.{World, SwitchNode}
@@ -19,7 +19,7 @@ use Rattle.proto_safety.specs.Flows.{FitsFrom, AckedIn}
 use Rattle.proto_safety.specs.LeaseLaws.{AskOf, NumberOf, First, IsEntryOf, Grounded, LeaseGrounded}
 use Rattle.proto_safety.proofs.FirstSendings.{sending}
 use Rattle.proto_safety.proofs.SlotFirsts.{NodeFirsts, lapsed_epoch}
-use Rattle.proto_safety.proofs.SwitchSince.{Since, NotLeased, idle, kept, took, kept_by}
+use Rattle.proto_safety.proofs.SwitchSince.{Since, NotLeased, idle, kept, took, kept_by, kept_by_round}
 use Rattle.proto_safety.proofs.SwitchTable.{msg}
 use Rattle.proto_safety.proofs.FlowBooks.{in_prefix}
 use Rattle.proto_safety.proofs.FlowAlarm.{in_filter}
@@ -94,6 +94,7 @@ numbered_entry n m key epoch number (Entry.Snap k x j cells) some is =
 
 module _ (app : Application) (fs gs : List First) (w x : World) (n : ℕ) (node : SwitchNode) (input : Input) (terms : x.terms ≡ w.terms) (own_terms : node.state.terms ≡ w.terms) (grows : IsPrefix (committed_of w.replicas) (committed_of x.replicas))
     (more : (f : First) → In fs f → In gs f) (firsts : NodeFirsts fs n node.state.inc node.state.slots node.state.copies) (fits : (key : Key) → FitsFrom app.cell_count key None (committed_of w.replicas)) (positive : (c : Copy) → In node.state.copies c → 1 ≤ c.number)
+    (numbered : (key : Key) (slot : Slot) (r : Round) → slot_at node.state key ≡ Some slot → slot.round ≡ Some r → 1 ≤ r.number)
     (told : (from to : Node) (nonce e : ℕ) (key : Key) (values : List ℕ) (load : Option Carried) → input ≡ msg from to (Body.Grant node.state.inc nonce e key values load) → In (committed_of w.replicas) (Entry.Grant key e n node.state.inc nonce))
     (acked : (from to : Node) (epoch upto : ℕ) (key : Key) (load : Option Carried) → input ≡ msg from to (Body.Ack node.state.inc epoch upto key load) → AckedIn (committed_of w.replicas) epoch upto key)
     (h : (key : Key) (slot : Slot) → slot_at node.state key ≡ Some slot → LeaseGrounded fs w n node.state.inc key slot.lease) where
@@ -104,30 +105,55 @@ module _ (app : Application) (fs gs : List First) (w x : World) (n : ℕ) (node 
   before key slot at = lease_later fs gs w x n node.state.inc key slot.lease more terms grows (h key slot at)
 
   -- a lease by a number of its epoch that is committed
-  by_copy : (key : Key) (nonce epoch upto : ℕ) (old : Slot) (c : Copy) → slot_at node.state key ≡ Some old → epoch_of old.lease ≡ Some epoch → AckedIn (committed_of w.replicas) epoch upto key → In node.state.copies c → is_covered key upto c ≡ true →
-      Grounded gs x n node.state.inc key nonce epoch (c.first + node.state.terms.t_switch)
-  by_copy key nonce epoch upto old c at leased a i covered =
-      let of : is_of key c ≡ true = (and_parts _ _ covered).0 in
-      let le : c.number ≤ upto = leb-true c.number upto (and_parts _ _ covered).1 in
-      let m = numbers_below app.cell_count key (committed_of w.replicas) a.entry epoch a.number c.number (fits key) a.there a.number_is (omega (arith, le, a.reaches)) in
+  by_number : (key : Key) (nonce epoch upto first number : ℕ) → In fs (sending n first key (NumberOf epoch number)) → 1 ≤ number → number ≤ upto → AckedIn (committed_of w.replicas) epoch upto key →
+      Grounded gs x n node.state.inc key nonce epoch (first + node.state.terms.t_switch)
+  by_number key nonce epoch upto first number i some le a =
+      let m = numbers_below app.cell_count key (committed_of w.replicas) a.entry epoch a.number number (fits key) a.there a.number_is (omega (arith, le, a.reaches)) in
       record {
-        first = sending n c.first key (NumberOf epoch c.number);
-        was = more _ (firsts.copied key old epoch c at leased i of);
+        first = sending n first key (NumberOf epoch number);
+        was = more _ i;
         switch_is = refl;
         key_is = refl;
         request_of = refl;
-        expiry_is = ap (λ t. c.first + t.t_switch) (own_terms ∙ sym terms);
+        expiry_is = ap (λ t. first + t.t_switch) (own_terms ∙ sym terms);
         entry = m.entry;
         committed = in_prefix (committed_of w.replicas) (committed_of x.replicas) m.entry grows m.there;
-        entry_of = numbered_entry n c.first key epoch c.number m.entry (positive c i) m.number_is;
-        in_epoch = number_epoch key epoch c.number m.entry m.number_is;
+        entry_of = numbered_entry n first key epoch number m.entry some m.number_is;
+        in_epoch = number_epoch key epoch number m.entry m.number_is;
       }
+
+  by_copy : (key : Key) (nonce epoch upto : ℕ) (old : Slot) (c : Copy) → slot_at node.state key ≡ Some old → epoch_of old.lease ≡ Some epoch → AckedIn (committed_of w.replicas) epoch upto key → In node.state.copies c → is_covered key upto c ≡ true →
+      Grounded gs x n node.state.inc key nonce epoch (c.first + node.state.terms.t_switch)
+  by_copy key nonce epoch upto old c at leased a i covered =
+      by_number key nonce epoch upto c.first c.number (firsts.copied key old epoch c at leased i (and_parts _ _ covered).0) (positive c i) (leb-true c.number upto (and_parts _ _ covered).1) a
+
+  -- a lease that is extended or renewed from a moment of which one term is grounded
+  extended_from : (key : Key) (l : Lease) (epoch begun : ℕ) → ((nonce : ℕ) → Grounded gs x n node.state.inc key nonce epoch (begun + node.state.terms.t_switch)) → epoch_of l ≡ Some epoch → Now key l → Now key (extended node.state.terms.t_switch node.clock begun l)
+  extended_from key l epoch begun new of k = lease_case l of k
+    where
+      held_case : (nonce e expiry : ℕ) → e ≡ epoch → Grounded gs x n node.state.inc key nonce e expiry → (b : Bool) → nat_le expiry (begun + node.state.terms.t_switch) ≡ b → Grounded gs x n node.state.inc key nonce e (max expiry (begun + node.state.terms.t_switch))
+      held_case nonce e expiry same k true le =
+          let m : max expiry (begun + node.state.terms.t_switch) ≡ begun + node.state.terms.t_switch = omega (arith, leb-true expiry (begun + node.state.terms.t_switch) le) in
+          rw (m, same) (new nonce)
+      held_case nonce e expiry same k false le =
+          let m : max expiry (begun + node.state.terms.t_switch) ≡ expiry = omega (arith, leb-false expiry (begun + node.state.terms.t_switch) le) in
+          rw m k
+
+      renew_case : (nonce e expiry : ℕ) → e ≡ epoch → Grounded gs x n node.state.inc key nonce e expiry → (b : Bool) → LeaseGrounded gs x n node.state.inc key (if b then Held nonce e (begun + node.state.terms.t_switch) else Lapsed nonce e expiry)
+      renew_case nonce e expiry same k true = rw same (new nonce)
+      renew_case nonce e expiry same k false = k
+
+      lease_case : (l : Lease) → epoch_of l ≡ Some epoch → Now key l → Now key (extended node.state.terms.t_switch node.clock begun l)
+      lease_case Idle of k = absurd cc
+      lease_case (Asking nonce first) of k = absurd cc
+      lease_case (Held nonce e expiry) of k = let same : e ≡ epoch = cc in held_case nonce e expiry same k (nat_le expiry (begun + node.state.terms.t_switch)) refl
+      lease_case (Lapsed nonce e expiry) of k = let same : e ≡ epoch = cc in renew_case nonce e expiry same k (nat_lt node.clock (begun + node.state.terms.t_switch))
 
   -- the lease after an Ack
   extended_by : (key : Key) (l : Lease) (epoch upto : ℕ) (old : Slot) → slot_at node.state key ≡ Some old → epoch_of old.lease ≡ Some epoch → AckedIn (committed_of w.replicas) epoch upto key → epoch_of l ≡ Some epoch → Now key l →
       (o : Option (ℕ × ℕ)) → fold greatest_first None (filter (is_covered key upto) node.state.copies) ≡ o → Now key (acked_lease node.state.terms.t_switch node.clock l o)
   extended_by key l epoch upto old at leased a of k None is = k
-  extended_by key l epoch upto old at leased a of k (Some best) is = lease_case l of k
+  extended_by key l epoch upto old at leased a of k (Some best) is = extended_from key l epoch best.1 new of k
     where
       found : BestCopy (filter (is_covered key upto) node.state.copies) best
       found = best_copy (filter (is_covered key upto) node.state.copies) best is
@@ -136,24 +162,6 @@ module _ (app : Application) (fs gs : List First) (w x : World) (n : ℕ) (node 
       new nonce =
           let f = in_filter (is_covered key upto) node.state.copies found.copy found.there in
           subst (λ (m : ℕ). Grounded gs x n node.state.inc key nonce epoch (m + node.state.terms.t_switch)) found.first (by_copy key nonce epoch upto old found.copy at leased a f.0 f.1)
-
-      held_case : (nonce e expiry : ℕ) → e ≡ epoch → Grounded gs x n node.state.inc key nonce e expiry → (b : Bool) → nat_le expiry (best.1 + node.state.terms.t_switch) ≡ b → Grounded gs x n node.state.inc key nonce e (max expiry (best.1 + node.state.terms.t_switch))
-      held_case nonce e expiry same k true le =
-          let m : max expiry (best.1 + node.state.terms.t_switch) ≡ best.1 + node.state.terms.t_switch = omega (arith, leb-true expiry (best.1 + node.state.terms.t_switch) le) in
-          rw (m, same) (new nonce)
-      held_case nonce e expiry same k false le =
-          let m : max expiry (best.1 + node.state.terms.t_switch) ≡ expiry = omega (arith, leb-false expiry (best.1 + node.state.terms.t_switch) le) in
-          rw m k
-
-      renew_case : (nonce e expiry : ℕ) → e ≡ epoch → Grounded gs x n node.state.inc key nonce e expiry → (b : Bool) → LeaseGrounded gs x n node.state.inc key (if b then Held nonce e (best.1 + node.state.terms.t_switch) else Lapsed nonce e expiry)
-      renew_case nonce e expiry same k true = rw same (new nonce)
-      renew_case nonce e expiry same k false = k
-
-      lease_case : (l : Lease) → epoch_of l ≡ Some epoch → Now key l → Now key (acked_lease node.state.terms.t_switch node.clock l (Some best))
-      lease_case Idle of k = absurd cc
-      lease_case (Asking nonce first) of k = absurd cc
-      lease_case (Held nonce e expiry) of k = let same : e ≡ epoch = cc in held_case nonce e expiry same k (nat_le expiry (best.1 + node.state.terms.t_switch)) refl
-      lease_case (Lapsed nonce e expiry) of k = let same : e ≡ epoch = cc in renew_case nonce e expiry same k (nat_lt node.clock (best.1 + node.state.terms.t_switch))
 
   pub lease_now : (key : Key) (l : Lease) → ((nonce first : ℕ) → l ≡ Asking nonce first → In gs (sending n first key (AskOf node.state.inc nonce))) → Since node.state.inc node.state.terms.t_switch node.clock node.state.slots node.state.copies input key l → Now key l
   lease_now key l asking (idle none) = idle_case l none asking
@@ -185,3 +193,13 @@ module _ (app : Application) (fs gs : List First) (w x : World) (n : ℕ) (node 
       subst (λ (y : Lease). Now key y) (sym is)
       (extended_by key (lapsed_lease node.clock old.lease) epoch upto old at leased (acked from to epoch upto key load came) (lapsed_epoch node.clock old.lease ∙ leased)
       (lapsed_grounded gs x n node.state.inc node.clock key old.lease (before key old at)) _ refl)
+  lease_now key l asking (kept_by_round {from = from} {to = to} {epoch = epoch} {upto = upto} {load = load} old r at leased runs number came is) = lease_case is
+    where
+      new : (nonce : ℕ) → Grounded gs x n node.state.inc key nonce epoch (r.begun + node.state.terms.t_switch)
+      new nonce = by_number key nonce epoch upto r.begun r.number (firsts.rounds key old epoch r at leased runs) (numbered key old r at runs) (omega (arith, number)) (acked from to epoch upto key load came)
+
+      lease_case : (l ≡ extended node.state.terms.t_switch node.clock r.begun old.lease) ⊎ (l ≡ extended node.state.terms.t_switch node.clock r.begun (lapsed_lease node.clock old.lease)) → Now key l
+      lease_case (inl same) = subst (λ (y : Lease). Now key y) (sym same) (extended_from key old.lease epoch r.begun new leased (before key old at))
+      lease_case (inr same) =
+          subst (λ (y : Lease). Now key y) (sym same)
+          (extended_from key (lapsed_lease node.clock old.lease) epoch r.begun new (lapsed_epoch node.clock old.lease ∙ leased) (lapsed_grounded gs x n node.state.inc node.clock key old.lease (before key old at)))

@@ -1,4 +1,4 @@
--- Where leases end, over every run in strict mode.
+-- Where leases end, over every run.
 use Rattle.std.proofs.Common.{◌≡◌, ◌≢◌, ◌⊎◌, inl, inr, ℕ, ◌+◌, List, drop, length, Option, Some, refl, sym, ap, ◌∙◌, subst, true, false, set, slice_get}
 use Rattle.rp_base.specs.declared.node.Node.{Node}
 use Rattle.proto_data.specs.declared.message.Body.{Body}
@@ -75,10 +75,11 @@ module _ (app : Application) (w : World) (fs : List First) (n : ℕ) (node : Swi
       let inc = (step_same app node.state node.clock input).inc in
       let here : slice_get x.switches n ≡ Some moved = subst (λ l. slice_get l n ≡ Some moved) (sym switches) (get-set_same w.switches n node moved at) in
       subst (λ (i : ℕ). LeaseGrounded gs x n i key slot.lease) (sym inc)
-      (lease_now app fs gs w x n node input terms (g.0.0.1.1.switches n node at) grows (λ y i. sent_keeps n node.clock fs (switch_step app node.state node.clock input).1.sent y i) (f.nodes n node at) (known_of app.cell_count w g.0.0).committed_fits (λ c i. positive_at app w n node c g.1 at i) told acked
+      (lease_now app fs gs w x n node input terms (g.0.0.1.1.switches n node at) grows (λ y i. sent_keeps n node.clock fs (switch_step app node.state node.clock input).1.sent y i) (f.nodes n node at) (known_of app.cell_count w g.0.0).committed_fits (λ c i. positive_at app w n node c g.1 at i)
+      (λ k s r is runs. ((known_of app.cell_count w g.0.0).rounds n node k s r at is runs).0) told acked
       (λ k s is. h n node k s at is) key slot.lease
       (λ nonce first is. subst (λ (i : ℕ). In gs (sending n first key (AskOf i nonce))) inc ((later.nodes n moved here).asking key slot nonce first found is))
-      (step_since app node.state node.clock input key slot (ap (λ t. t.mode) (g.0.0.1.1.switches n node at) ∙ g.0.0.1.1.world) found))
+      (step_since app node.state node.clock input key slot found))
 
   moved_grounds : GroundsHold gs x
   moved_grounds m other key slot there found = node_case (at_set w.switches n m moved other (subst (λ l. slice_get l m ≡ Some other) switches there))

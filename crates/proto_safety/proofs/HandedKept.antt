@@ -1,4 +1,4 @@
--- What each Grant of a next epoch rests on, over every run in strict mode whose terms hold; so leases end, and the defined run is legal.
+-- What each Grant of a next epoch rests on, over every run whose terms hold; so leases end, and in strict mode the defined run is legal.
 use Rattle.std.proofs.Common.{◌≡◌, ◌≢◌, ◌⊎◌, inl, inr, ℕ, ◌+◌, ◌≤◌, List, [], ◌∷◌, ◌++◌, drop, length, map, Some, None, refl, sym, ap, ◌∙◌, subst, arith, set, slice_get, true, false, zero, suc}
 use Rattle.rp_base.specs.Clocks.{TermsHold}
 use Rattle.rp_base.specs.declared.node.Node.{Node}
@@ -129,7 +129,7 @@ ending_kept app =
             k.feeds w fs n node p at up mark g h.0,
             (
               moved_handed w (switch_moved (with_fed w p) n node step) fs n node _ step.1.sent at refl refl refl refl (origin w g)
-                  (new_entry app w fs n node (Input.Packet p) at (strict w g n node at) (known_of app.cell_count w g.0.0) (known_of app.cell_count (switch_moved (with_fed w p) n node step) later.0)
+                  (new_entry app w fs n node (Input.Packet p) at (known_of app.cell_count w g.0.0) (known_of app.cell_count (switch_moved (with_fed w p) n node step) later.0)
                   (fed_grant _ n node.state.inc p) (λ key j a. ((g.0.0.1.0.1 n node at).flows key).sent j a) (sources_of app.cell_count w g.0.0) g.0.1 _ later.1 h.0.0) h.1.0,
               (m.feeds w n node p at up mark h.1.1.0, t.feeds w n node p at up mark h.1.1.1),
             ),
@@ -140,7 +140,7 @@ ending_kept app =
             k.switches w fs n node input at up from g h.0,
             (
               moved_handed w (switch_moved w n node step) fs n node _ step.1.sent at refl refl refl refl (origin w g)
-                  (new_entry app w fs n node input at (strict w g n node at) (known_of app.cell_count w g.0.0) (known_of app.cell_count (switch_moved w n node step) later.0)
+                  (new_entry app w fs n node input at (known_of app.cell_count w g.0.0) (known_of app.cell_count (switch_moved w n node step) later.0)
                   (told_grant app w n node input from g.0.0) (λ key j a. ((g.0.0.1.0.1 n node at).flows key).sent j a) (sources_of app.cell_count w g.0.0) g.0.1 _ later.1 h.0.0) h.1.0,
               (m.switches w n node input at up from h.1.1.0, t.switches w n node input at up from h.1.1.1),
             ),
@@ -191,9 +191,6 @@ ending_kept app =
     t : Keeps app Timed
     t = timed_kept app
 
-    strict : (w : World) → Standing app w → (n : ℕ) (node : SwitchNode) → slice_get w.switches n ≡ Some node → node.state.terms.mode ≡ Mode.Strict
-    strict w g n node at = ap (λ t. t.mode) (g.0.0.1.1.switches n node at) ∙ g.0.0.1.1.world
-
     origin : (w : World) → Standing app w → (r : ℕ) (replica : ReplicaNode) (e : Entry) → slice_get w.replicas r ≡ Some replica → In (entries_of replica.book) e → Origin w.frames e
     origin w g r replica e at i = each_at (NodeOrigins w.frames) w.replicas r replica g.0.0.0.1.1.books at e i
 
@@ -205,11 +202,10 @@ ends_leases app w fs l h = over_late app.cell_count w fs l.0.0.0 h.1.0 h.0.1
 pub opened_firsts : (app : Application) (setup : Setup) → FirstsHold [] (opened app.cell_count setup)
 opened_firsts app setup =
     record {
-      nodes = all_opened (λ n (node : SwitchNode). NodeFirsts [] n node.state.inc node.state.slots node.state.copies) setup (λ n. record { asking = λ key slot nonce first at is. cc; copied = λ key slot epoch c at is i of. absurd i });
+      nodes = all_opened (λ n (node : SwitchNode). NodeFirsts [] n node.state.inc node.state.slots node.state.copies) setup (λ n. record { asking = λ key slot nonce first at is. cc; copied = λ key slot epoch c at is i of. absurd i; rounds = λ key slot epoch r at is runs. let no : None ≡ Some slot = at in cc });
       past = λ f i. absurd i;
       sent = λ f i. absurd i;
       asked = λ m n r i from is. absurd i;
-      no_snaps = tt;
       aged = λ f r node b i at j is. absurd i;
     }
 

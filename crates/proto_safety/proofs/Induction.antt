@@ -73,6 +73,24 @@ keeps_both app I J k g =
 pub keeps_all : (app : Application) (I J : World → Type 0) → Keeps app I → Keeps app J → Keeps app (λ w. I w × J w)
 keeps_all app I J k l = keeps_both app I J k (keeps_anyway app I J l)
 
+-- two facts, each kept where the same is known
+pub given_both : (app : Application) (I J K : World → Type 0) → KeepsGiven app I J → KeepsGiven app I K → KeepsGiven app I (λ w. J w × K w)
+given_both app I J K k l =
+    record {
+      counts = λ w g h. (k.counts w g h.0, l.counts w g h.1);
+      passes = λ w i g h. (k.passes w i g h.0, l.passes w i g h.1);
+      feeds = λ w n node p at up mark g h. (k.feeds w n node p at up mark g h.0, l.feeds w n node p at up mark g h.1);
+      switches = λ w n node input at up from g h. (k.switches w n node input at up from g h.0, l.switches w n node input at up from g h.1);
+      replicas = λ w n node input at up from g h. (k.replicas w n node input at up from g h.0, l.replicas w n node input at up from g h.1);
+      advances = λ w by fits g h. (k.advances w by fits g h.0, l.advances w by fits g h.1);
+      stops_switch = λ w n fits g h. (k.stops_switch w n fits g h.0, l.stops_switch w n fits g h.1);
+      stops_replica = λ w n fits g h. (k.stops_replica w n fits g h.0, l.stops_replica w n fits g h.1);
+      boots = λ w n fits g h. (k.boots w n fits g h.0, l.boots w n fits g h.1);
+      detects_switch = λ w n fits g h. (k.detects_switch w n fits g h.0, l.detects_switch w n fits g h.1);
+      detects_replica = λ w n fits g h. (k.detects_replica w n fits g h.0, l.detects_replica w n fits g h.1);
+      announces = λ w g h. (k.announces w g h.0, l.announces w g h.1);
+    }
+
 pub running_after : (w : World) (i : ℕ) (to : Node) → runs_now w to ≡ true → runs_now (frame_passed w i) to ≡ true
 running_after w i (Node.Switch n) up = up
 running_after w i (Node.Replica n) up = up

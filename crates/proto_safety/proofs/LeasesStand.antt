@@ -1,8 +1,7 @@
--- What the protocol promises of leases, over every run in strict mode whose terms hold.
+-- What the protocol promises of leases, over every run whose terms hold.
 use Rattle.std.proofs.Common.{◌≡◌, ℕ, ◌≤◌, List, [], sym, ◌∙◌, subst}
 use Rattle.rp_base.specs.Clocks.{TermsHold}
 use Rattle.rp_base.specs.declared.event.Event.{Event}
-use Rattle.proto_data.specs.declared.terms.Mode.{Mode}
 use Rattle.rp_app.specs.Application.{Application}
 use Rattle.proto_model.specs.Table.{Key}
 use Rattle.proto_model.specs.World.{World, Setup, opened}
@@ -15,7 +14,7 @@ use Rattle.proto_safety.proofs.FirstsInduction.{firsts_kept}
 use Rattle.proto_safety.proofs.GroundsKept.{Standing, standing_kept}
 use Rattle.proto_safety.proofs.HandedKept.{Ending, ending_kept, opened_ending}
 use Rattle.proto_safety.proofs.Induction.{run_kept}
-use Rattle.proto_safety.proofs.LegalRun.{opened_laid, laid_stands}
+use Rattle.proto_safety.proofs.LegalRun.{opened_standing}
 use Rattle.proto_safety.proofs.Over.{over_late}
 use Rattle.proto_safety.proofs.WorldFirsts.{WasSent, by_ask, by_put}
 use Rattle.proto_safety.proofs.WorldNonces.{greatest_ask}
@@ -45,9 +44,9 @@ leases_now app w fs g h =
 
 -- ---- every run
 
-module _ (app : Application) (setup : Setup) (strict : setup.terms.mode ≡ Mode.Strict) (hold : TermsHold setup.terms.t_switch setup.terms.t_store setup.terms.ratio) (some : 1 ≤ setup.terms.t_store) where
+module _ (app : Application) (setup : Setup) (hold : TermsHold setup.terms.t_switch setup.terms.t_store setup.terms.ratio) (some : 1 ≤ setup.terms.t_store) where
   start : Standing app (opened app.cell_count setup)
-  start = laid_stands app (opened app.cell_count setup) (opened_laid app setup strict)
+  start = opened_standing app setup
 
   -- what ends leases is kept with the first sendings of the run
   ending_after : (events : List Event) → Ending (firsts_of app setup events) (world_after app (opened app.cell_count setup) events)

@@ -123,7 +123,7 @@ serial_same w key =
 
 -- ---- records
 
-records_differ : (n : ℕ) (book : List Booked) (records : Records) → KeysDiffer records → KeysDiffer (fold (λ rs (b : Booked). applied n rs b.entry b.moment) records book)
+pub records_differ : (n : ℕ) (book : List Booked) (records : Records) → KeysDiffer records → KeysDiffer (fold (λ rs (b : Booked). applied n rs b.entry b.moment) records book)
 records_differ n [] records h = h
 records_differ n (b ∷ bs) records h = records_differ n bs (applied n records b.entry b.moment) (applied_differ records b.entry b.moment h)
   where

@@ -39,6 +39,8 @@ use Rattle.proto_safety.proofs.WorldOrigins.{origins_hold}
 use Rattle.proto_safety.proofs.WorldSays.{all_say}
 use Rattle.proto_safety.proofs.WorldNonces.{all_nonces}
 use Rattle.proto_safety.proofs.Ground.{Ground}
+use Rattle.proto_safety.proofs.FlowRounds.{rounds_rest}
+use Rattle.proto_safety.proofs.RoundNumbers.{all_numbered}
 use Rattle.proto_safety.proofs.WorldPutsKept.{opened_puts}
 use Rattle.proto_data.specs.declared.terms.Mode.{Mode}
 use Rattle.proto_safety.proofs.WorldOrder.{OrderIn, order_kept}
@@ -126,15 +128,24 @@ opened_shown app setup = record { at = λ r i. absurd i }
 pub opened_order : (app : Application) (setup : Setup) → OrderIn app (opened app.cell_count setup)
 opened_order app setup = record { within = tt; at = λ r i. absurd i }
 
+opened_replied : (app : Application) (setup : Setup) → Replied app.cell_count (opened app.cell_count setup)
+opened_replied app setup = ((books_hold app setup [], opened_fits app.cell_count setup), tt)
+
+pub opened_ground : (app : Application) (setup : Setup) → Ground app.cell_count (opened app.cell_count setup)
+opened_ground app setup = (
+  ((opened_replied app setup, (flows_rest app setup [], (rounds_rest app setup [], all_numbered app setup []))), ((books_hold app setup [], opened_gathers app.cell_count setup), origins_hold app setup [])),
+  (((books_hold app setup [], all_say app setup []), all_nonces app setup []), record { switches = all_opened (λ n (node : SwitchNode). node.state.terms ≡ setup.terms) setup (λ n. refl) }),
+)
+
+-- in every mode
+pub opened_standing : (app : Application) (setup : Setup) → Standing app (opened app.cell_count setup)
+opened_standing app setup = ((opened_ground app setup, opened_puts app.cell_count setup), flows_hold app Positive (positive app) setup [])
+
 pub opened_laid : (app : Application) (setup : Setup) → setup.terms.mode ≡ Mode.Strict → Laid app (opened app.cell_count setup)
-opened_laid app setup strict =
-    let books = books_hold app setup [] in
-    let replied : Replied app.cell_count (opened app.cell_count setup) = ((books, opened_fits app.cell_count setup), tt) in
-    let ground : Ground app.cell_count (opened app.cell_count setup) = (
-      ((replied, flows_rest app setup []), ((books, opened_gathers app.cell_count setup), origins_hold app setup [])),
-      (((books, all_say app setup []), all_nonces app setup []), record { world = strict; switches = all_opened (λ n (node : SwitchNode). node.state.terms ≡ setup.terms) setup (λ n. refl) }),
-    ) in
-    (((ground, opened_puts app.cell_count setup), ((record { within = tt; differ = tt }, tt), (ground, tt))), ((replied, (all_counted app setup [], tt)), flows_hold app Positive (positive app) setup []))
+opened_laid app setup strict = (
+  ((opened_ground app setup, opened_puts app.cell_count setup), ((record { within = tt; differ = tt }, tt), ((opened_ground app setup, strict), tt))),
+  ((opened_replied app setup, (all_counted app setup [], tt)), flows_hold app Positive (positive app) setup []),
+)
 
 -- ---- the run
 

@@ -68,6 +68,7 @@ pub mod PutsKept
 pub mod WorldGathers
 pub mod ClockSums
 pub mod BookEpochLaws
+pub mod RoundNumbers
 pub mod Ground
 pub mod WorldPutsKept
 pub mod StoreOutputs
@@ -76,7 +77,6 @@ pub mod WorldOutputs
 pub mod EventFrames
 pub mod FlowRounds
 pub mod LeasesRest
-pub mod StrictSends
 pub mod WorldFirsts
 pub mod FirstsKept
 pub mod SerialLists
@@ -89,6 +89,18 @@ pub mod SwitchCells
 pub mod SwitchItems
 pub mod CellsFed
 pub mod NoSnaps
+pub mod KeptFronts
+pub mod SnapSlots
+pub mod NoCopies
+pub mod SnapRounds
+pub mod SnapStep
+pub mod WorldSnaps
+pub mod SnapRun
+pub mod SnapShown
+pub mod LossNow
+pub mod LossRun
+pub mod SnapAges
+pub mod AgesRun
 pub mod CellFacts
 pub mod CellsStep
 pub mod CellsGrow

@@ -1,18 +1,17 @@
 -- No lease is live, and no young Ask is answered, where a running book has a later epoch: from what each Grant of a next epoch rests on.
-use Rattle.std.proofs.Common.{◌≡◌, inl, inr, ℕ, ◌+◌, ◌≤◌, ◌<◌, List, Some, None, arith, refl, sym, ap, ◌∙◌, subst, false, slice_get, le-ltb}
+use Rattle.std.proofs.Common.{◌≡◌, inl, inr, ℕ, ◌+◌, ◌≤◌, ◌<◌, List, Some, None, arith, refl, sym, subst, false, slice_get, le-ltb}
 use Rattle.proto_data.specs.declared.message.Entry.{Entry}
 use Rattle.proto_model.specs.Table.{Key}
 use Rattle.proto_model.specs.Slot.{Slot, Lease, Asking, Held, is_young}
 use Rattle.proto_model.specs.Stands.{entries_of}
 use Rattle.proto_model.specs.World.{World, SwitchNode, ReplicaNode}
 use Rattle.proto_safety.specs.Books.{In, Runs, committed_of}
-use Rattle.proto_safety.specs.CellLaws.{Rests, SlotRests, copies_of}
 use Rattle.proto_safety.specs.LeaseLaws.{First, AskOf, IsEntryOf, HasEpoch, NotLater, IsLater, ClockPast, HasNonce, LeaseGrounded, Grounded, SlotAt}
 use Rattle.proto_safety.specs.Origins.{AskSent}
 use Rattle.proto_safety.proofs.BookEpochs.{in_middle}
 use Rattle.proto_safety.proofs.CellsGround.{OverLate}
 use Rattle.proto_safety.proofs.FlowBooks.{in_prefix}
-use Rattle.proto_safety.proofs.Ground.{Ground, known_of}
+use Rattle.proto_safety.proofs.Ground.{Ground, held_grant, known_of}
 use Rattle.proto_safety.proofs.GroundsKept.{GroundsHold}
 use Rattle.proto_safety.proofs.Handed.{HandedHold, Passed}
 use Rattle.proto_safety.proofs.Lists.{each_at}
@@ -56,11 +55,8 @@ module _ (cells : ℕ) (w : World) (fs : List First) (g : Ground cells w) (hande
   slot_greatest n key node slot nonce s has i m a = greatest_ask w n i m nonce key node g.1.0.1 s.at (record { slot = slot; found = s.found; nonce = has }) a
 
   -- the Grant of a held slot is committed
-  held_grant : (n epoch nonce expiry : ℕ) (key : Key) (node : SwitchNode) (slot : Slot) → SlotAt w n key node slot → slot.lease ≡ Held nonce epoch expiry → In (committed_of w.replicas) (Entry.Grant key epoch n node.state.inc nonce)
-  held_grant n epoch nonce expiry key node slot s lease =
-      let rests : SlotRests (committed_of w.replicas) n node.state.inc key (Some slot) (copies_of node key) =
-      subst (λ o. SlotRests (committed_of w.replicas) n node.state.inc key o (copies_of node key)) s.found ((g.0.0.1 n node s.at key).rests (ap (λ t. t.mode) (g.1.1.switches n node s.at) ∙ g.1.1.world)) in
-      (subst (λ (l : Lease). Rests (committed_of w.replicas) n node.state.inc key l slot.last (copies_of node key)) lease rests).0
+  held_is_granted : (n epoch nonce expiry : ℕ) (key : Key) (node : SwitchNode) (slot : Slot) → SlotAt w n key node slot → slot.lease ≡ Held nonce epoch expiry → In (committed_of w.replicas) (Entry.Grant key epoch n node.state.inc nonce)
+  held_is_granted n epoch nonce expiry key node slot s lease = held_grant cells w n node key slot nonce epoch expiry g.0.0 s.at s.found lease
 
   pub over_late : OverLate w
   over_late = record { over = over; late = late }
@@ -71,7 +67,7 @@ module _ (cells : ℕ) (w : World) (fs : List First) (g : Ground cells w) (hande
       over r n epoch later key replica node slot e nonce expiry runs i h lt s lease =
           let ground : Grounded fs w n node.state.inc key nonce epoch expiry = subst (λ (l : Lease). LeaseGrounded fs w n node.state.inc key l) lease (grounds n node key slot s.at s.found) in
           let within = known.within r replica runs.at runs.up in
-          let granted = in_prefix (committed_of w.replicas) (entries_of replica.book) (Entry.Grant key epoch n node.state.inc nonce) within (held_grant n epoch nonce expiry key node slot s lease) in
+          let granted = in_prefix (committed_of w.replicas) (entries_of replica.book) (Entry.Grant key epoch n node.state.inc nonce) within (held_is_granted n epoch nonce expiry key node slot s lease) in
           let past : ClockPast w ground.first.switch (ground.first.moment + w.terms.t_switch) =
           run_out r replica key epoch later n node.state.inc nonce e runs.at i h lt granted (slot_greatest n key node slot nonce s (subst (λ (l : Lease). HasNonce l nonce) (sym lease) refl)) ground.first ground.entry ground.was
           (in_prefix (committed_of w.replicas) (entries_of replica.book) ground.entry within ground.committed) ground.in_epoch ground.entry_of in

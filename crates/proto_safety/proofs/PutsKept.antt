@@ -1,9 +1,7 @@
 -- What is known of Puts and items is kept by every other change of the world.
-use Rattle.std.proofs.Common.{◌≡◌, ◌⊎◌, inl, inr, ℕ, ◌+◌, List, [], ◌∷◌, ◌++◌, length, Option, Some, None, sym, ap, ◌∙◌, subst, true, slice_get, arith, append_assoc, length-append}
+use Rattle.std.proofs.Common.{◌≡◌, ◌⊎◌, inl, inr, ℕ, ◌+◌, List, [], ◌∷◌, ◌++◌, length, Some, None, sym, ap, ◌∙◌, subst, true, slice_get, arith, append_assoc, length-append}
 use Rattle.proto_data.specs.declared.message.Msg.{Msg}
-use Rattle.proto_data.specs.declared.message.Body.{Body}
 use Rattle.proto_data.specs.declared.message.Entry.{Entry}
-use Rattle.proto_data.specs.declared.message.Carried.{Carried}
 use Rattle.proto_model.specs.Table.{Key}
 use Rattle.proto_model.specs.Slot.{Slot}
 use Rattle.proto_model.specs.SwitchState.{slot_at}
@@ -15,7 +13,7 @@ use Rattle.proto_safety.specs.Flows.{FitsFrom}
 use Rattle.proto_safety.proofs.Chains.{each_in}
 use Rattle.proto_safety.proofs.FlowBooks.{in_prefix}
 use Rattle.proto_safety.proofs.BookEpochs.{one_place}
-use Rattle.proto_safety.proofs.WorldPuts.{PutFrame, GrantOf, Awaited, NumberFits, Owned, PutsFit, put_parts}
+use Rattle.proto_safety.proofs.WorldPuts.{NumberIn, PutFrame, GrantOf, Awaited, NumberFits, Owned, PutsFit, put_parts}
 
 -- a member stands somewhere
 pub record Somewhere {A : Type 0} (xs : List A) (x : A) : Type 0 where
@@ -38,9 +36,9 @@ not_again n key es k s i m t j p fits there =
     let len : length es ≡ length w.before + length (Entry.Grant key k t j p ∷ w.behind) = ap length w.is ∙ length-append w.before (Entry.Grant key k t j p ∷ w.behind) in
     absurd (omega (arith, ap length same, len))
 
--- a message is no Put
+-- a message is neither a Put nor a Snap
 abbrev pub NoPut : Msg → Type 0
-NoPut m = (inc e k : ℕ) (key : Key) (delta : List (ℕ × ℕ)) (load : Option Carried) → m.body ≡ Body.Put inc e k key delta load → ⊥
+NoPut m = (inc e k : ℕ) (key : Key) → NumberIn inc e k key m.body → ⊥
 
 -- a slot of a switch that was there before
 pub record SlotWas (old : List SwitchNode) (n : ℕ) (node : SwitchNode) (key : Key) (slot : Slot) : Type 0 where
@@ -99,7 +97,7 @@ module _ (frames ms : List Msg) (switches after : List SwitchNode) (replicas lat
     where
       part_case : PutFrame frames n inc key e k ⊎ PutFrame ms n inc key e k → PutFrame frames n inc key e k
       part_case (inl q) = q
-      part_case (inr q) = absurd (each_in NoPut ms q.msg no_puts q.there inc e k key q.delta q.load q.body_is)
+      part_case (inr q) = absurd (each_in NoPut ms q.msg no_puts q.there inc e k key q.number_in)
 
   pub changed_puts : PutsFit (frames ++ ms) after later items
   changed_puts =

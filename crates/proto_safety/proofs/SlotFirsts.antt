@@ -1,4 +1,4 @@
--- What the first sendings say of one slot and its copies, and what a change of them keeps.
+-- What the first sendings say of one slot, its copies and its round, and what a change of them keeps.
 use Rattle.std.proofs.Common.{◌≡◌, ◌⊎◌, inl, inr, ℕ, ◌+◌, ◌≤◌, List, [], ◌∷◌, ◌++◌, Option, Some, None, refl, sym, ap, subst, ◌∙◌, true, false, Bool, arith, eqb-true}
 use Rattle.std.specs.Prelude.{filter, if◌then◌else◌, nat_lt, nat_le}
 use Rattle.std.proofs.lemmas.Bool.{false≢true, both_ways}
@@ -7,7 +7,7 @@ use Rattle.proto_data.specs.declared.message.Body.{Body}
 use Rattle.proto_data.specs.declared.message.Input.{Input}
 use Rattle.proto_data.specs.declared.message.Carried.{Carried}
 use Rattle.proto_model.specs.Table.{Key, Table, same_key, get, put}
-use Rattle.proto_model.specs.Slot.{Slot, Lease, Idle, Asking, Held, Lapsed, epoch_of, lapsed_lease}
+use Rattle.proto_model.specs.Slot.{Slot, Lease, Round, Idle, Asking, Held, Lapsed, epoch_of, lapsed_lease}
 use Rattle.proto_model.specs.SwitchState.{Copy, is_of}
 use Rattle.proto_model.specs.SwitchRow.{has_epoch}
 use Rattle.proto_model.specs.SwitchActs.{acked_lease}
@@ -19,10 +19,11 @@ use Rattle.proto_safety.proofs.FlowBooks.{in_front, in_last}
 use Rattle.proto_safety.proofs.Tables.{get-put_same, get-put_other, same_key-true, same_key-refl, same_some}
 use Rattle.proto_safety.proofs.SwitchTable.{msg}
 
--- the first sendings of the Asking slots and the copies of switch n
+-- the first sendings of the Asking slots, the copies and the running rounds of switch n
 pub record NodeFirsts (fs : List First) (n inc : ℕ) (slots : Table Slot) (copies : List Copy) : Type 0 where
   pub asking : (key : Key) (slot : Slot) (nonce first : ℕ) → get slots key ≡ Some slot → slot.lease ≡ Asking nonce first → In fs (sending n first key (AskOf inc nonce))
   pub copied : (key : Key) (slot : Slot) (epoch : ℕ) (c : Copy) → get slots key ≡ Some slot → epoch_of slot.lease ≡ Some epoch → In copies c → is_of key c ≡ true → In fs (sending n c.first key (NumberOf epoch c.number))
+  pub rounds : (key : Key) (slot : Slot) (epoch : ℕ) (r : Round) → get slots key ≡ Some slot → epoch_of slot.lease ≡ Some epoch → slot.round ≡ Some r → In fs (sending n r.begun key (NumberOf epoch r.number))
 
 -- nonces and numbers that were asked are counted
 pub record Counted (fs : List First) (n inc nonces : ℕ) (slots : Table Slot) : Type 0 where
@@ -79,13 +80,18 @@ has_leased (Lapsed nonce epoch expiry) e h = ap (λ (x : ℕ). Some x) (eqb-true
 
 -- ---- one slot changes
 
+-- no round runs in a slot
+abbrev pub NoRound : Slot → Type 0
+NoRound v = (r : Round) → v.round ≡ Some r → ⊥
+
 -- a slot's change, with the first sendings of the slot itself
 pub put_firsts : (fs gs : List First) (n inc : ℕ) (slots : Table Slot) (copies after : List Copy) (key : Key) (v : Slot) → ((f : First) → In fs f → In gs f) →
     ((nonce first : ℕ) → v.lease ≡ Asking nonce first → In gs (sending n first key (AskOf inc nonce))) →
     ((epoch : ℕ) (c : Copy) → epoch_of v.lease ≡ Some epoch → In after c → is_of key c ≡ true → In gs (sending n c.first key (NumberOf epoch c.number))) →
+    ((epoch : ℕ) (r : Round) → epoch_of v.lease ≡ Some epoch → v.round ≡ Some r → In gs (sending n r.begun key (NumberOf epoch r.number))) →
     ((k : Key) (c : Copy) → same_key key k ≡ false → In after c → is_of k c ≡ true → (d : Copy) × (In copies d × ((is_of k d ≡ true) × ((d.first ≡ c.first) × (d.number ≡ c.number))))) →
     NodeFirsts fs n inc slots copies → NodeFirsts gs n inc (put slots key v) after
-put_firsts fs gs n inc slots copies after key v more own_ask own_copies others h = record { asking = asking; copied = copied }
+put_firsts fs gs n inc slots copies after key v more own_ask own_copies own_round others h = record { asking = asking; copied = copied; rounds = rounds }
   where
     asking : (k : Key) (slot : Slot) (nonce first : ℕ) → get (put slots key v) k ≡ Some slot → slot.lease ≡ Asking nonce first → In gs (sending n first k (AskOf inc nonce))
     asking k slot nonce first at is = key_case (same_key key k) refl
@@ -112,6 +118,16 @@ put_firsts fs gs n inc slots copies after key v more own_ask own_copies others h
             (subst (λ (x : ℕ). In fs (sending n x k (NumberOf epoch c.number))) d.1.1.1.0
             (subst (λ (x : ℕ). In fs (sending n d.0.first k (NumberOf epoch x))) d.1.1.1.1
             (h.copied k slot epoch d.0 (sym (get-put_other slots k key v ne) ∙ at) is d.1.0 d.1.1.0)))
+
+    rounds : (k : Key) (slot : Slot) (epoch : ℕ) (r : Round) → get (put slots key v) k ≡ Some slot → epoch_of slot.lease ≡ Some epoch → slot.round ≡ Some r → In gs (sending n r.begun k (NumberOf epoch r.number))
+    rounds k slot epoch r at is runs = key_case (same_key key k) refl
+      where
+        key_case : (b : Bool) → same_key key k ≡ b → In gs (sending n r.begun k (NumberOf epoch r.number))
+        key_case true t =
+            let e : key ≡ k = same_key-true key k t in
+            let same : v ≡ slot = same_some (get (put slots key v) k) v slot (rw (← e) (get-put_same slots key v)) at in
+            subst (λ (x : Key). In gs (sending n r.begun x (NumberOf epoch r.number))) e (own_round epoch r (ap (λ (s : Slot). epoch_of s.lease) same ∙ is) (ap (λ (s : Slot). s.round) same ∙ runs))
+        key_case false ne = more (sending n r.begun k (NumberOf epoch r.number)) (h.rounds k slot epoch r (sym (get-put_other slots k key v ne) ∙ at) is runs)
 
 -- copies that stay
 pub same_copies : (copies : List Copy) (key : Key) (k : Key) (c : Copy) → same_key key k ≡ false → In copies c → is_of k c ≡ true → (d : Copy) × (In copies d × ((is_of k d ≡ true) × ((d.first ≡ c.first) × (d.number ≡ c.number))))
@@ -142,7 +158,7 @@ pushed_made gs n x key r m = made_case (in_append gs (x ∷ []) m.first m.there)
     made_case (inr (inl e)) = inr (ap (λ (f : First). f.key) e ∙ m.key_is, ap (λ (f : First). f.request) e ∙ m.request_is)
     made_case (inr (inr j)) = absurd j
 
-module _ (gs : List First) (n inc nonces now : ℕ) (slots : Table Slot) (copies : List Copy) (key : Key) (slot v : Slot) (epoch : ℕ) (new : Copy) (at : get slots key ≡ Some slot) (leased : epoch_of slot.lease ≡ Some epoch) (same : v.lease ≡ slot.lease)
+module _ (gs : List First) (n inc nonces now : ℕ) (slots : Table Slot) (copies : List Copy) (key : Key) (slot v : Slot) (epoch : ℕ) (at : get slots key ≡ Some slot) (leased : epoch_of slot.lease ≡ Some epoch) (same : v.lease ≡ slot.lease)
     (h : NodeFirsts gs n inc slots copies) (c : Counted gs n inc nonces slots) where
   abbrev pub Now : First
   Now = sending n now key (NumberOf epoch (slot.last + 1))
@@ -150,11 +166,13 @@ module _ (gs : List First) (n inc nonces now : ℕ) (slots : Table Slot) (copies
   pub next_new : Made gs n key (NumberOf epoch (slot.last + 1)) → ⊥
   next_new m = absurd (omega (arith, c.numbers key slot epoch (slot.last + 1) at leased m))
 
-  pub next_firsts : new.key ≡ key → new.number ≡ slot.last + 1 → new.first ≡ now → NodeFirsts (gs ++ Now ∷ []) n inc (put slots key v) (copies ++ new ∷ [])
-  next_firsts own_key own_number own_first =
+  -- the number of a new copy
+  pub next_firsts : (new : Copy) → v.round ≡ slot.round → new.key ≡ key → new.number ≡ slot.last + 1 → new.first ≡ now → NodeFirsts (gs ++ Now ∷ []) n inc (put slots key v) (copies ++ new ∷ [])
+  next_firsts new same_round own_key own_number own_first =
       put_firsts gs (gs ++ Now ∷ []) n inc slots copies (copies ++ new ∷ []) key v (λ f i. in_front gs _ f i)
       (λ nonce first is. absurd (not_asking slot.lease epoch nonce first leased (sym same ∙ is)))
       (λ e d is i of. copy_case e d (ap epoch_of (sym same) ∙ is) (in_append copies (new ∷ []) d i) of)
+      (λ e r is runs. in_front gs _ _ (h.rounds key slot e r at (ap epoch_of (sym same) ∙ is) (sym same_round ∙ runs)))
       (pushed_copies copies new key own_key) h
     where
       copy_case : (e : ℕ) (d : Copy) → epoch_of slot.lease ≡ Some e → In copies d ⊎ In (new ∷ []) d → is_of key d ≡ true → In (gs ++ Now ∷ []) (sending n d.first key (NumberOf e d.number))
@@ -165,6 +183,41 @@ module _ (gs : List First) (n inc nonces now : ℕ) (slots : Table Slot) (copies
           let first : d.first ≡ now = ap (λ (y : Copy). y.first) (sym x) ∙ own_first in
           rw (← same_epoch, number, first) (in_last gs Now)
       copy_case e d is (inr (inr j)) of = absurd j
+
+  -- the number of a new round
+  pub begun_firsts : (r : Round) → v.round ≡ Some r → r.number ≡ slot.last + 1 → r.begun ≡ now → NodeFirsts (gs ++ Now ∷ []) n inc (put slots key v) copies
+  begun_firsts r own own_number own_begun =
+      put_firsts gs (gs ++ Now ∷ []) n inc slots copies copies key v (λ f i. in_front gs _ f i)
+      (λ nonce first is. absurd (not_asking slot.lease epoch nonce first leased (sym same ∙ is)))
+      (λ e d is i of. in_front gs _ _ (h.copied key slot e d at (ap epoch_of (sym same) ∙ is) i of))
+      (λ e q is runs. round_case e q (ap epoch_of (sym same) ∙ is) (same_some v.round r q own runs))
+      (same_copies copies key) h
+    where
+      round_case : (e : ℕ) (q : Round) → epoch_of slot.lease ≡ Some e → r ≡ q → In (gs ++ Now ∷ []) (sending n q.begun key (NumberOf e q.number))
+      round_case e q is x =
+          let same_epoch : epoch ≡ e = same_some (epoch_of slot.lease) epoch e leased is in
+          let number : q.number ≡ slot.last + 1 = ap (λ (y : Round). y.number) (sym x) ∙ own_number in
+          let begun : q.begun ≡ now = ap (λ (y : Round). y.begun) (sym x) ∙ own_begun in
+          rw (← same_epoch, number, begun) (in_last gs Now)
+
+  -- a slot that keeps its numbers
+  pub same_counted : v.last ≡ slot.last → Counted gs n inc nonces (put slots key v)
+  same_counted last = record { asks = c.asks; numbers = numbers }
+    where
+      numbers : (k : Key) (x : Slot) (e j : ℕ) → get (put slots key v) k ≡ Some x → epoch_of x.lease ≡ Some e → Made gs n k (NumberOf e j) → j ≤ x.last
+      numbers k x e j found is m = key_case (same_key key k) refl
+        where
+          own : v ≡ x → key ≡ k → j ≤ x.last
+          own same_slot same_key =
+              let l : v.last ≡ x.last = ap (λ (s : Slot). s.last) same_slot in
+              let o : epoch_of slot.lease ≡ Some e = ap epoch_of (sym same) ∙ ap (λ (s : Slot). epoch_of s.lease) same_slot ∙ is in
+              omega (arith, last, l, c.numbers key slot e j at o (subst (λ (q : Key). Made gs n q (NumberOf e j)) (sym same_key) m))
+
+          key_case : (b : Bool) → same_key key k ≡ b → j ≤ x.last
+          key_case true t =
+              let e' : key ≡ k = same_key-true key k t in
+              own (same_some (get (put slots key v) k) v x (rw (← e') (get-put_same slots key v)) found) e'
+          key_case false ne = c.numbers k x e j (sym (get-put_other slots k key v ne) ∙ found) is m
 
   pub next_counted : v.last ≡ slot.last + 1 → Counted (gs ++ Now ∷ []) n inc nonces (put slots key v)
   next_counted last = record { asks = asks; numbers = numbers }

@@ -24,9 +24,9 @@ use Rattle.proto_safety.specs.Flows.{Flow, FitsFrom, flow_in, flow_of, flow_step
 use Rattle.proto_safety.proofs.BookEpochLaws.{books_fit}
 use Rattle.proto_safety.proofs.BookEpochs.{fits_parts}
 use Rattle.proto_safety.proofs.BooksStep.{node_after, tail_book}
-use Rattle.proto_safety.proofs.Ground.{Ground, ground_kept}
+use Rattle.proto_safety.proofs.Ground.{Ground, IsStrict, strict_kept, ground_kept}
 use Rattle.proto_safety.proofs.Induction.{Comes, keeps_both, run_kept}
-use Rattle.proto_safety.proofs.LegalRun.{opened_laid, laid_stands}
+use Rattle.proto_safety.proofs.LegalRun.{opened_ground}
 use Rattle.proto_safety.proofs.Lists.{each_at}
 use Rattle.proto_safety.proofs.Places.{get-set_same, prefix_same}
 use Rattle.proto_safety.proofs.RunSteps.{event_at, kept_between}
@@ -122,5 +122,6 @@ answer_taken r s last node delivered to at =
 -- a switch of a strict run is strict
 pub strict_there : (r : Run) (i s : ℕ) (node : SwitchNode) → r.setup.terms.mode ≡ Mode.Strict → slice_get (before r i).switches s ≡ Some node → node.state.terms.mode ≡ Mode.Strict
 strict_there r i s node strict at =
-    let g : Ground r.app.cell_count (before r i) = run_kept r.app (Ground r.app.cell_count) (ground_kept r.app) (take i r.events) (opened r.app.cell_count r.setup) (laid_stands r.app (opened r.app.cell_count r.setup) (opened_laid r.app r.setup strict)).0.0 in
-    ap (λ t. t.mode) (g.1.1.switches s node at) ∙ g.1.1.world
+    let g : Ground r.app.cell_count (before r i) = run_kept r.app (Ground r.app.cell_count) (ground_kept r.app) (take i r.events) (opened r.app.cell_count r.setup) (opened_ground r.app r.setup) in
+    let mode : IsStrict (before r i) = run_kept r.app IsStrict (strict_kept r.app) (take i r.events) (opened r.app.cell_count r.setup) strict in
+    ap (λ t. t.mode) (g.1.1.switches s node at) ∙ mode

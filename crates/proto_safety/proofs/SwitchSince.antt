@@ -5,11 +5,10 @@ use Rattle.proto_data.specs.declared.message.Body.{Body}
 use Rattle.rp_base.specs.declared.node.Node.{Node}
 use Rattle.proto_data.specs.declared.message.Input.{Input}
 use Rattle.proto_data.specs.declared.message.Carried.{Carried}
-use Rattle.proto_data.specs.declared.terms.Mode.{Mode}
 use Rattle.rp_base.specs.declared.node.Packet.{Packet}
 use Rattle.rp_app.specs.Application.{Application}
 use Rattle.proto_model.specs.Table.{Key, Table, same_key, get, put, map_values}
-use Rattle.proto_model.specs.Slot.{Slot, Lease, Idle, Asking, Held, Lapsed, epoch_of, lapsed_lease, lapsed_slot}
+use Rattle.proto_model.specs.Slot.{Slot, Lease, Round, Idle, Asking, Held, Lapsed, epoch_of, lapsed_lease, lapsed_slot, extended}
 use Rattle.proto_model.specs.SwitchState.{Switch, Copy, slot_at, is_covered, greatest_first, lapsed}
 use Rattle.proto_model.specs.SwitchAlarm.{Walk, walk_order}
 use Rattle.proto_model.specs.SwitchRow.{SwitchRow, NewAsk, AskAgain, Drops, Direct, Mirrored, Granted, Late, Acked, RoundDone, Denied, Busied, Resends, switch_row}
@@ -18,7 +17,6 @@ use Rattle.proto_model.specs.SwitchRows.{switch_step}
 use Rattle.proto_safety.proofs.Tables.{get-put_same, get-put_other, get-map_values, same_key-true, same_some}
 use Rattle.proto_safety.proofs.SwitchTable.{msg, Acts, Ready, fed, at_grant, at_grant_again, ask_again, no_copy_room, direct, mirrored, snapped, too_old, granted_only, acked, round_done, busied, row_acts}
 use Rattle.proto_safety.proofs.AlarmInduction.{WalkKeeps, walk_kept}
-use Rattle.proto_safety.proofs.FlowCopies.{not_strict}
 use Rattle.proto_safety.proofs.SlotCells.{mapped}
 use Rattle.proto_safety.proofs.SlotFirsts.{has_leased, lapsed_epoch, lapsed_asking}
 
@@ -37,6 +35,9 @@ pub data Since (inc t now : ℕ) (slots : Table Slot) (copies : List Copy) (inpu
       {from to : Node} {epoch upto : ℕ} {load : Option Carried} (old : Slot) → get slots k ≡ Some old → epoch_of old.lease ≡ Some epoch → input ≡ msg from to (Body.Ack inc epoch upto k load) →
       (l ≡ acked_lease t now old.lease (fold greatest_first None (filter (is_covered k upto) copies))) ⊎ (l ≡ acked_lease t now (lapsed_lease now old.lease) (fold greatest_first None (filter (is_covered k upto) copies))) →
       Since inc t now slots copies input k l
+  kept_by_round :
+      {from to : Node} {epoch upto : ℕ} {load : Option Carried} (old : Slot) (r : Round) → get slots k ≡ Some old → epoch_of old.lease ≡ Some epoch → old.round ≡ Some r → r.number ≡ upto → input ≡ msg from to (Body.Ack inc epoch upto k load) →
+      (l ≡ extended t now r.begun old.lease) ⊎ (l ≡ extended t now r.begun (lapsed_lease now old.lease)) → Since inc t now slots copies input k l
 
 module _ (inc t now : ℕ) (slots : Table Slot) (copies : List Copy) (input : Input) where
   abbrev All : Table Slot → Type 0
@@ -65,7 +66,7 @@ module _ (inc t now : ℕ) (slots : Table Slot) (copies : List Copy) (input : In
 
 -- ---- rows
 
-module _ (app : Application) (s : Switch) (now : ℕ) (strict : s.terms.mode ≡ Mode.Strict) where
+module _ (app : Application) (s : Switch) (now : ℕ) where
   abbrev Left : Input → Table Slot → Type 0
   Left input after = (k : Key) (v : Slot) → get after k ≡ Some v → Since s.inc s.terms.t_switch now s.slots s.copies input k v.lease
 
@@ -91,7 +92,8 @@ module _ (app : Application) (s : Switch) (now : ℕ) (strict : s.terms.mode ≡
   row_since {input} (Late key slot mark) f = one input key _ (idle refl)
   row_since {input} (Acked key slot upto load) (acked {from = from} {to = to} {inc = inc} {epoch = epoch} m i at e) =
       one input key _ (kept_by slot at (has_leased slot.lease epoch e) (ap (λ (x : ℕ). msg from to (Body.Ack x epoch upto key load)) (eqb-true inc s.inc i)) (inl refl))
-  row_since {input} (RoundDone key slot r) (round_done {bound = bound} m i at e o n) = absurd (not_strict s.terms.mode bound strict m)
+  row_since {input} (RoundDone key slot r) (round_done {from = from} {to = to} {inc = inc} {epoch = epoch} {upto = upto} {load = load} m i at e o n) =
+      one input key _ (kept_by_round slot r at (has_leased slot.lease epoch e) o (eqb-true r.number upto n) (ap (λ (x : ℕ). msg from to (Body.Ack x epoch upto key load)) (eqb-true inc s.inc i)) (inl refl))
   row_since {input} (Denied key slot) f = one input key _ (idle refl)
   row_since {input} (Busied key slot mark) (busied i at is in_asked) = one input key _ (kept slot at (inl refl))
   row_since {input} Resends f =
@@ -134,7 +136,15 @@ lapsed_since inc t now slots copies input k l (kept_by {epoch = epoch} {upto = u
     lease_case : (x y : Lease) → y ≡ lapsed_lease now x → (l ≡ acked_lease t now y best) ⊎ (l ≡ acked_lease t now (lapsed_lease now y) best) → l ≡ acked_lease t now (lapsed_lease now x) best
     lease_case x y e (inl f) = f ∙ ap (λ (z : Lease). acked_lease t now z best) e
     lease_case x y e (inr f) = f ∙ ap (λ (z : Lease). acked_lease t now z best) (ap (lapsed_lease now) e ∙ lapsed_twice now x)
+lapsed_since inc t now slots copies input k l (kept_by_round {epoch = epoch} old r at is runs number came lease) =
+    let m = mapped now (get slots k) old (sym (get-map_values (lapsed_slot now) slots k) ∙ at) in
+    let e : old.lease ≡ lapsed_lease now m.0.lease = ap (λ (s : Slot). s.lease) (sym m.2) in
+    kept_by_round m.0 r m.1 (sym (lapsed_epoch now m.0.lease) ∙ ap epoch_of (sym e) ∙ is) (ap (λ (s : Slot). s.round) m.2 ∙ runs) number came (inr (lease_case m.0.lease old.lease e lease))
+  where
+    lease_case : (x y : Lease) → y ≡ lapsed_lease now x → (l ≡ extended t now r.begun y) ⊎ (l ≡ extended t now r.begun (lapsed_lease now y)) → l ≡ extended t now r.begun (lapsed_lease now x)
+    lease_case x y e (inl f) = f ∙ ap (λ (z : Lease). extended t now r.begun z) e
+    lease_case x y e (inr f) = f ∙ ap (λ (z : Lease). extended t now r.begun z) (ap (lapsed_lease now) e ∙ lapsed_twice now x)
 
-pub step_since : (app : Application) (s : Switch) (now : ℕ) (input : Input) (k : Key) (v : Slot) → s.terms.mode ≡ Mode.Strict → slot_at (switch_step app s now input).0 k ≡ Some v → Since s.inc s.terms.t_switch now s.slots s.copies input k v.lease
-step_since app s now input k v strict at =
-    lapsed_since s.inc s.terms.t_switch now s.slots s.copies input k v.lease (row_since app (lapsed now s) now strict (switch_row app (lapsed now s) now input) (row_acts app (lapsed now s) now input) k v at)
+pub step_since : (app : Application) (s : Switch) (now : ℕ) (input : Input) (k : Key) (v : Slot) → slot_at (switch_step app s now input).0 k ≡ Some v → Since s.inc s.terms.t_switch now s.slots s.copies input k v.lease
+step_since app s now input k v at =
+    lapsed_since s.inc s.terms.t_switch now s.slots s.copies input k v.lease (row_since app (lapsed now s) now (switch_row app (lapsed now s) now input) (row_acts app (lapsed now s) now input) k v at)

@@ -1,4 +1,4 @@
--- In strict mode, with the list of first sendings: each request of a switch is there, its entry is no older at a store than within the ratio of its first sending.
+-- With the list of first sendings: each request of a switch is there, its entry is no older at a store than within the ratio of its first sending.
 use Rattle.std.proofs.Common.{◌≡◌, ◌≢◌, ◌⊎◌, inl, inr, ℕ, ◌+◌, ◌≤◌, List, [], ◌∷◌, ◌++◌, length, map, Option, Some, None, refl, sym, ap, ◌∙◌, subst, true, set, slice_get, arith, zero, suc, Bool, false, eqb-true, eq-eqb}
 use Rattle.std.specs.Prelude.{◌==◌}
 use Rattle.std.proofs.lemmas.Bool.{false≢true}
@@ -8,7 +8,6 @@ use Rattle.proto_data.specs.declared.message.Body.{Body}
 use Rattle.proto_data.specs.declared.message.Entry.{Entry}
 use Rattle.proto_data.specs.declared.message.Input.{Input}
 use Rattle.proto_data.specs.declared.message.Carried.{Carried}
-use Rattle.proto_data.specs.declared.terms.Mode.{Mode}
 use Rattle.rp_app.specs.Application.{Application}
 use Rattle.proto_model.specs.Clocks.{Aged, clocks, switch_clock, replica_clock}
 use Rattle.proto_model.specs.Table.{Key}
@@ -23,23 +22,22 @@ use Rattle.proto_safety.specs.LeaseLaws.{Request, AskOf, NumberOf, First, IsEntr
 use Rattle.proto_safety.specs.Firsts.{request_of, with_sent}
 use Rattle.proto_safety.specs.SwitchSent.{SentNow as SaidNow}
 use Rattle.proto_safety.proofs.FirstSendings.{Made, SentNow, sent_keeps, sent_was, sent_made}
-use Rattle.proto_safety.proofs.StrictSends.{NoSnap, NoSnaps, step_no_snap}
 use Rattle.proto_safety.proofs.SlotFirsts.{NodeFirsts, Counted, Untouched}
 use Rattle.proto_safety.proofs.SwitchFirsts.{step_firsts}
 use Rattle.proto_safety.proofs.SwitchSays.{step_says}
 use Rattle.proto_safety.proofs.SwitchTable.{msg}
 use Rattle.proto_safety.proofs.Places.{at_set, get-set_same}
-use Rattle.proto_safety.proofs.Lists.{each_append, map-set_same}
+use Rattle.proto_safety.proofs.Lists.{map-set_same}
 use Rattle.std.proofs.lemmas.List.{length-set}
 use Rattle.proto_safety.proofs.Chains.{each_in}
 use Rattle.proto_safety.proofs.FlowAlarm.{in_append, to_append}
 use Rattle.proto_safety.proofs.FlowBooks.{in_front}
 use Rattle.proto_safety.proofs.BookEpochs.{one_grant}
-use Rattle.proto_safety.proofs.WorldPuts.{PutFrame, Known, PutsFit}
+use Rattle.proto_safety.proofs.WorldPuts.{NumberIn, is_put, is_snap, number_request, PutFrame, Known, PutsFit}
 use Rattle.proto_safety.proofs.Clocks.{AgedIn}
 use Rattle.proto_safety.proofs.Tables.{same_some}
 
--- a request that was sent in an Ask or a Put
+-- a request that was sent in an Ask, or in a Put or a Snap
 pub data WasSent (frames : List Msg) (f : First) : Type 0 where
   by_ask : {inc nonce : ℕ} → f.request ≡ AskOf inc nonce → AskSent frames f.switch inc nonce f.key → WasSent frames f
   by_put : {inc epoch number : ℕ} → f.request ≡ NumberOf epoch number → PutFrame frames f.switch inc f.key epoch number → WasSent frames f
@@ -55,7 +53,6 @@ pub record FirstsHold (fs : List First) (w : World) : Type 0 where
   pub past : (f : First) → In fs f → Before w.switches f.switch f.moment
   pub sent : (f : First) → In fs f → WasSent w.frames f
   pub asked : (m : Msg) (n : ℕ) (r : Key × Request) → In w.frames m → m.from ≡ Node.Switch n → request_of m.body ≡ Some r → Made fs n r.0 r.1
-  pub no_snaps : NoSnaps w.frames
   pub aged : (f : First) (r : ℕ) (node : ReplicaNode) (b : Booked) → In fs f → slice_get w.replicas r ≡ Some node → In node.book b → IsEntryOf f b.entry → AgedIn f.switch f.moment (length w.switches + r) b.moment w
 
 -- ---- what is counted
@@ -117,7 +114,7 @@ set_other (x ∷ xs) (suc n) (suc k) y ne = set_other xs n k y (λ e. ne (ap (λ
 -- what is known of the frames and the books
 pub record Sources (w : World) : Type 0 where
   pub origin : (r : ℕ) (node : ReplicaNode) (b : Booked) → slice_get w.replicas r ≡ Some node → In node.book b → Origin w.frames b.entry
-  pub sender : (m : Msg) (inc e k : ℕ) (key : Key) (delta : List (ℕ × ℕ)) (load : Option Carried) → In w.frames m → m.body ≡ Body.Put inc e k key delta load → (n : ℕ) × (m.from ≡ Node.Switch n)
+  pub sender : (m : Msg) (r : Key × Request) → In w.frames m → request_of m.body ≡ Some r → (n : ℕ) × (m.from ≡ Node.Switch n)
 
 module _ (app : Application) (w : World) (fs : List First) (n : ℕ) (node : SwitchNode) (input : Input) (at : slice_get w.switches n ≡ Some node) where
   abbrev state : Switch
@@ -135,7 +132,7 @@ module _ (app : Application) (w : World) (fs : List First) (n : ℕ) (node : Swi
   abbrev now : List First
   now = with_sent n node.clock fs sent
 
-  module _ (strict : node.state.terms.mode ≡ Mode.Strict) (known : Known app.cell_count w.frames w.switches w.replicas) (later : Known app.cell_count (w.frames ++ sent) after w.replicas)
+  module _ (known : Known app.cell_count w.frames w.switches w.replicas) (later : Known app.cell_count (w.frames ++ sent) after w.replicas)
       (told : (from to : Node) (nonce e : ℕ) (key : Key) (values : List ℕ) (load : Option Carried) → input ≡ msg from to (Body.Grant node.state.inc nonce e key values load) → In (committed_of w.replicas) (Entry.Grant key e n node.state.inc nonce))
       (asks : (key : Key) (j : ℕ) → AskSent w.frames n node.state.inc j key → j ≤ node.state.nonces) (sources : Sources w)
       (p : PutsFit w.frames w.switches w.replicas w.history.items) (items : List Journaled) (q : PutsFit (w.frames ++ sent) after w.replicas items) (h : FirstsHold fs w) where
@@ -154,13 +151,14 @@ module _ (app : Application) (w : World) (fs : List First) (n : ℕ) (node : Swi
       where
         mine : NodeFirsts now n state.inc state.slots state.copies
         mine =
-            step_firsts app fs n node.state node.clock input (known.tidy n node at) strict (counted_at app.cell_count w fs h p n node at asks) (untouched_at app.cell_count w fs h p n node input at known told) (h.nodes n node at)
+            step_firsts app fs n node.state node.clock input (known.tidy n node at) (counted_at app.cell_count w fs h p n node at asks) (untouched_at app.cell_count w fs h p n node input at known told) (h.nodes n node at)
 
         theirs : NodeFirsts fs m other.state.inc other.state.slots other.state.copies → NodeFirsts now m other.state.inc other.state.slots other.state.copies
         theirs k =
             record {
               asking = λ key slot nonce first found is. sent_keeps n node.clock fs sent _ (k.asking key slot nonce first found is);
               copied = λ key slot epoch c found is i of. sent_keeps n node.clock fs sent _ (k.copied key slot epoch c found is i of);
+              rounds = λ key slot epoch r found is runs. sent_keeps n node.clock fs sent _ (k.rounds key slot epoch r found is runs);
             }
 
         node_case : ((m ≡ n) × (other ≡ moved)) ⊎ ((m ≢ n) × (slice_get w.switches m ≡ Some other)) → NodeFirsts now m other.state.inc other.state.slots other.state.copies
@@ -186,39 +184,45 @@ module _ (app : Application) (w : World) (fs : List First) (n : ℕ) (node : Swi
 
     -- ---- frames
 
-    body_sent : (m : Msg) (f : First) → In sent m → m.from ≡ Node.Switch n → f.switch ≡ n → (b : Body) → m.body ≡ b → NoSnap b → request_of b ≡ Some (f.key, f.request) → WasSent (w.frames ++ sent) f
-    body_sent m f i from s (Body.Ask inc nonce key load) is ok r =
+    body_sent : (m : Msg) (f : First) → In sent m → m.from ≡ Node.Switch n → f.switch ≡ n → (b : Body) → m.body ≡ b → request_of b ≡ Some (f.key, f.request) → WasSent (w.frames ++ sent) f
+    body_sent m f i from s (Body.Ask inc nonce key load) is r =
         let e : (key, AskOf inc nonce) ≡ (f.key, f.request) = pair_of r in
         let k : key ≡ f.key = ap (λ x. x.0) e in
         let q : AskOf inc nonce ≡ f.request = ap (λ x. x.1) e in
         by_ask (sym q)
         (subst (λ (x : ℕ). AskSent (w.frames ++ sent) x inc nonce f.key) (sym s)
         (subst (λ (x : Key). AskSent (w.frames ++ sent) n inc nonce x) k (record { msg = m; there = to_append w.frames sent m (inr i); from_is = from; load = load; body_is = is })))
-    body_sent m f i from s (Body.Put inc epoch number key delta load) is ok r =
+    body_sent m f i from s (Body.Put inc epoch number key delta load) is r =
         let e : (key, NumberOf epoch number) ≡ (f.key, f.request) = pair_of r in
         let k : key ≡ f.key = ap (λ x. x.0) e in
         let q : NumberOf epoch number ≡ f.request = ap (λ x. x.1) e in
         by_put (sym q)
         (subst (λ (x : ℕ). PutFrame (w.frames ++ sent) x inc f.key epoch number) (sym s)
-        (subst (λ (x : Key). PutFrame (w.frames ++ sent) n inc x epoch number) k (record { msg = m; there = to_append w.frames sent m (inr i); from_is = from; delta = delta; load = load; body_is = is })))
-    body_sent m f i from s (Body.Snap inc epoch round key chunk chunks cells) is ok r = absurd ok
-    body_sent m f i from s (Body.Grant inc nonce epoch key cells load) is ok r = absurd cc
-    body_sent m f i from s (Body.Busy inc nonce key mark) is ok r = absurd cc
-    body_sent m f i from s (Body.Ack inc epoch upto key load) is ok r = absurd cc
-    body_sent m f i from s (Body.Deny inc epoch key) is ok r = absurd cc
-    body_sent m f i from s (Body.Forward config index entry load) is ok r = absurd cc
-    body_sent m f i from s (Body.Have index) is ok r = absurd cc
-    body_sent m f i from s (Body.Echo of load) is ok r = absurd cc
-    body_sent m f i from s (Body.Config config) is ok r = absurd cc
+        (subst (λ (x : Key). PutFrame (w.frames ++ sent) n inc x epoch number) k (record { msg = m; there = to_append w.frames sent m (inr i); from_is = from; number_in = is_put m inc epoch number key delta load is })))
+    body_sent m f i from s (Body.Snap inc epoch round key chunk chunks cells) is r =
+        let e : (key, NumberOf epoch round) ≡ (f.key, f.request) = pair_of r in
+        let k : key ≡ f.key = ap (λ x. x.0) e in
+        let q : NumberOf epoch round ≡ f.request = ap (λ x. x.1) e in
+        by_put (sym q)
+        (subst (λ (x : ℕ). PutFrame (w.frames ++ sent) x inc f.key epoch round) (sym s)
+        (subst (λ (x : Key). PutFrame (w.frames ++ sent) n inc x epoch round) k (record { msg = m; there = to_append w.frames sent m (inr i); from_is = from; number_in = is_snap m inc epoch round chunk chunks key cells is })))
+    body_sent m f i from s (Body.Grant inc nonce epoch key cells load) is r = absurd cc
+    body_sent m f i from s (Body.Busy inc nonce key mark) is r = absurd cc
+    body_sent m f i from s (Body.Ack inc epoch upto key load) is r = absurd cc
+    body_sent m f i from s (Body.Deny inc epoch key) is r = absurd cc
+    body_sent m f i from s (Body.Forward config index entry load) is r = absurd cc
+    body_sent m f i from s (Body.Have index) is r = absurd cc
+    body_sent m f i from s (Body.Echo of load) is r = absurd cc
+    body_sent m f i from s (Body.Config config) is r = absurd cc
 
     sent_now : (f : First) → In fs f ⊎ SentNow n node.clock fs sent f → WasSent (w.frames ++ sent) f
     sent_now f (inl i) = more_sent f (h.sent f i)
       where
         more_sent : (f : First) → WasSent w.frames f → WasSent (w.frames ++ sent) f
         more_sent f (by_ask is a) = by_ask is (record { msg = a.msg; there = in_front w.frames sent a.msg a.there; from_is = a.from_is; load = a.load; body_is = a.body_is })
-        more_sent f (by_put is a) = by_put is (record { msg = a.msg; there = in_front w.frames sent a.msg a.there; from_is = a.from_is; delta = a.delta; load = a.load; body_is = a.body_is })
+        more_sent f (by_put is a) = by_put is (record { msg = a.msg; there = in_front w.frames sent a.msg a.there; from_is = a.from_is; number_in = a.number_in })
     sent_now f (inr s) =
-        body_sent s.msg f s.there (sent_from s.msg s.there) s.switch_is s.msg.body refl (each_in (λ (m : Msg). NoSnap m.body) sent s.msg (step_no_snap app node.state node.clock input strict) s.there) s.request_is
+        body_sent s.msg f s.there (sent_from s.msg s.there) s.switch_is s.msg.body refl s.request_is
 
     asked_now : (m : Msg) (k : ℕ) (r : Key × Request) → m.from ≡ Node.Switch k → request_of m.body ≡ Some r → In w.frames m ⊎ In sent m → Made now k r.0 r.1
     asked_now m k r from is (inl i) =
@@ -230,27 +234,31 @@ module _ (app : Application) (w : World) (fs : List First) (n : ℕ) (node : Swi
 
     -- ---- a request that is new has no entry
 
+    number_entry : (f : First) → SentNow n node.clock fs sent f → (m : Msg) (inc epoch number : ℕ) (key : Key) → In w.frames m → NumberIn inc epoch number key m.body → key ≡ f.key → f.request ≡ NumberOf epoch number → ⊥
+    number_entry f s m inc epoch number key there is same_key request =
+        let by = sources.sender m (key, NumberOf epoch number) there (number_request m.body inc epoch number key is) in
+        let mine = numbered_count (w.frames ++ sent) n f.key epoch number f s.switch_is refl request (sent_now f (inr s)) in
+        let g = q.granted n mine.0 epoch number f.key mine.1 in
+        let theirs : PutFrame w.frames by.0 inc f.key epoch number = subst (λ (x : Key). PutFrame w.frames by.0 inc x epoch number) same_key (record { msg = m; there = there; from_is = by.1; number_in = is }) in
+        let k = p.granted by.0 inc epoch number f.key theirs in
+        let same : by.0 ≡ n = (one_grant app.cell_count f.key None (committed_of w.replicas) epoch by.0 inc k.nonce n mine.0 g.nonce (known.committed_fits f.key) k.there g.there).switch in
+        let d : Made fs n key (NumberOf epoch number) = h.asked m n (key, NumberOf epoch number) there (by.1 ∙ ap (λ (x : ℕ). Node.Switch x) same) (number_request m.body inc epoch number key is) in
+        s.new (subst (λ (x : Request). Made fs n f.key x) (sym request) (subst (λ (x : Key). Made fs n x (NumberOf epoch number)) same_key d))
+
     pub new_entry : (f : First) → SentNow n node.clock fs sent f → (e : Entry) → Origin w.frames e → IsEntryOf f e → ⊥
     new_entry f s (Entry.Grant key epoch switch inc nonce) o is =
         let from : o.msg.from ≡ Node.Switch n = o.from_is ∙ ap (λ (x : ℕ). Node.Switch x) (is.1 ∙ s.switch_is) in
         let d : Made fs n key (AskOf inc nonce) = h.asked o.msg n (key, AskOf inc nonce) o.there from (ap request_of o.body_is) in
         s.new (subst (λ (x : Request). Made fs n f.key x) (sym is.2) (subst (λ (x : Key). Made fs n x (AskOf inc nonce)) is.0 d))
     new_entry f s (Entry.Put key epoch number delta) o is =
-        let by = sources.sender o.msg o.inc epoch number key delta o.load o.there o.body_is in
-        let mine = numbered_count (w.frames ++ sent) n f.key epoch number f s.switch_is refl is.1 (sent_now f (inr s)) in
-        let g = q.granted n mine.0 epoch number f.key mine.1 in
-        let theirs : PutFrame w.frames by.0 o.inc f.key epoch number = subst (λ (x : Key). PutFrame w.frames by.0 o.inc x epoch number) is.0 (record { msg = o.msg; there = o.there; from_is = by.1; delta = delta; load = o.load; body_is = o.body_is }) in
-        let k = p.granted by.0 o.inc epoch number f.key theirs in
-        let same : by.0 ≡ n = (one_grant app.cell_count f.key None (committed_of w.replicas) epoch by.0 o.inc k.nonce n mine.0 g.nonce (known.committed_fits f.key) k.there g.there).switch in
-        let d : Made fs n key (NumberOf epoch number) = h.asked o.msg n (key, NumberOf epoch number) o.there (by.1 ∙ ap (λ (x : ℕ). Node.Switch x) same) (ap request_of o.body_is) in
-        s.new (subst (λ (x : Request). Made fs n f.key x) (sym is.1) (subst (λ (x : Key). Made fs n x (NumberOf epoch number)) is.0 d))
+        number_entry f s o.msg o.inc epoch number key o.there (is_put o.msg o.inc epoch number key delta o.load o.body_is) is.0 is.1
     new_entry f s (Entry.Snap key epoch round cells) o is = snap_case o.parts o.some o.sent
       where
         snap_case : (parts : List (List ℕ)) → 1 ≤ length parts → ((i : ℕ) (part : List ℕ) → slice_get parts i ≡ Some part → ChunkSent w.frames key epoch round i (length o.parts) part) → ⊥
         snap_case [] some sent = absurd (omega (arith, some))
         snap_case (x ∷ xs) some sent =
             let c = sent 0 x refl in
-            subst NoSnap c.body_is (each_in (λ (m : Msg). NoSnap m.body) w.frames c.msg h.no_snaps c.there)
+            number_entry f s c.msg c.inc epoch round key c.there (is_snap c.msg c.inc epoch round 0 (length o.parts) key x c.body_is) is.0 is.1
 
     aged_after : (f : First) (r : ℕ) (replica : ReplicaNode) (b : Booked) → slice_get w.replicas r ≡ Some replica → In replica.book b → IsEntryOf f b.entry → In fs f ⊎ SentNow n node.clock fs sent f →
         Aged w.terms.ratio (clocks w) f.switch f.moment (length w.switches + r) b.moment
@@ -264,7 +272,6 @@ module _ (app : Application) (w : World) (fs : List First) (n : ℕ) (node : Swi
           past = λ f i. subst (λ (l : List SwitchNode). Before l f.switch f.moment) (sym switches) (past_now f (sent_was n node.clock fs sent f i));
           sent = λ f i. subst (λ (l : List Msg). WasSent l f) (sym frames) (sent_now f (sent_was n node.clock fs sent f i));
           asked = λ m k r i from is. asked_now m k r from is (in_append w.frames sent m (subst (λ (l : List Msg). In l m) frames i));
-          no_snaps = subst NoSnaps (sym frames) (each_append (λ (m : Msg). NoSnap m.body) w.frames sent h.no_snaps (step_no_snap app node.state node.clock input strict));
           aged = λ f r replica b i there j is.
               let c : clocks x ≡ clocks w = rw (switches, replicas) (ap (λ cs. cs ++ map replica_clock w.replicas) (map-set_same switch_clock w.switches n node moved at refl)) in
               let l : length x.switches ≡ length w.switches = ap length switches ∙ length-set w.switches n moved in

@@ -137,7 +137,7 @@ announced_ride w =
     (each_map (HasItem w.history.items) (λ n. config_msg w (Node.Switch n)) (running_switches w) (λ n. tt))
     (each_map (HasItem w.history.items) (λ n. config_msg w (Node.Replica n)) (running_replicas w) (λ n. tt))
 
-counted_of : (app : Application) (w : World) (n : ℕ) (node : SwitchNode) → AllCounted app w → slice_get w.switches n ≡ Some node → SwitchCounted app node
+pub counted_of : (app : Application) (w : World) (n : ℕ) (node : SwitchNode) → AllCounted app w → slice_get w.switches n ≡ Some node → SwitchCounted app node
 counted_of app w n node h at = each_at (Holds app (Counted app) (cells_keep app)) w.switches n node h at
 
 pub outputs_kept : (app : Application) → IsApplication app → KeepsGiven app (AllCounted app) OutputsRide

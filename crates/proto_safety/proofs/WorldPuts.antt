@@ -9,7 +9,7 @@ use Rattle.proto_data.specs.declared.message.Carried.{Carried}
 use Rattle.rp_base.specs.declared.node.Output.{Output}
 use Rattle.rp_app.specs.Application.{Application, Delta}
 use Rattle.proto_model.specs.Table.{Key}
-use Rattle.proto_model.specs.Slot.{Slot, Asking, epoch_of}
+use Rattle.proto_model.specs.Slot.{Slot, Round, Asking, epoch_of}
 use Rattle.proto_model.specs.SwitchState.{Switch, Item, slot_at}
 use Rattle.proto_model.specs.SwitchRows.{switch_step}
 use Rattle.proto_model.specs.Effects.{added}
@@ -18,7 +18,9 @@ use Rattle.proto_model.specs.Stands.{entries_of}
 use Rattle.proto_model.specs.World.{SwitchNode, ReplicaNode, Journaled}
 use Rattle.proto_safety.specs.Books.{In, IsPrefix, lives, committed_of}
 use Rattle.proto_safety.specs.Flows.{FitsFrom}
-use Rattle.proto_safety.specs.SwitchSent.{SentNow, SaysNow, PutsNow}
+use Rattle.proto_safety.specs.SwitchSent.{SentNow, SaysNow, PutsNow, SnapsNow}
+use Rattle.proto_safety.specs.Firsts.{request_of}
+use Rattle.proto_safety.specs.LeaseLaws.{NumberOf}
 use Rattle.proto_safety.proofs.Places.{at_set, get-set_same}
 use Rattle.proto_safety.proofs.Chains.{each_in}
 use Rattle.proto_safety.proofs.FlowAlarm.{in_append}
@@ -33,14 +35,37 @@ use Rattle.proto_safety.proofs.SwitchWas.{Was, goes_on, asks, takes, ItemStands,
 use Rattle.proto_safety.proofs.SlotFirsts.{not_asking}
 use Rattle.proto_safety.proofs.Tables.{same_some}
 
--- a Put that switch n sent
+-- a Put or a Snap of this incarnation, epoch and number
+abbrev pub NumberIn : ℕ → ℕ → ℕ → Key → Body → Type 0
+NumberIn inc epoch number key (Body.Put i e m k delta load) = (i ≡ inc) × (e ≡ epoch) × (m ≡ number) × (k ≡ key)
+NumberIn inc epoch number key (Body.Snap i e m k chunk chunks cells) = (i ≡ inc) × (e ≡ epoch) × (m ≡ number) × (k ≡ key)
+NumberIn inc epoch number key _ = ⊥
+
+-- a Put or a Snap that switch n sent
 pub record PutFrame (frames : List Msg) (n inc : ℕ) (key : Key) (epoch number : ℕ) : Type 0 where
   pub msg : Msg
   pub there : In frames msg
   pub from_is : msg.from ≡ Node.Switch n
-  pub delta : Delta
-  pub load : Option Carried
-  pub body_is : msg.body ≡ Body.Put inc epoch number key delta load
+  pub number_in : NumberIn inc epoch number key msg.body
+
+pub is_put : (m : Msg) (inc e k : ℕ) (key : Key) (delta : Delta) (load : Option Carried) → m.body ≡ Body.Put inc e k key delta load → NumberIn inc e k key m.body
+is_put m inc e k key delta load is = subst (λ (b : Body). NumberIn inc e k key b) (sym is) (refl, refl, refl, refl)
+
+pub is_snap : (m : Msg) (inc e k chunk chunks : ℕ) (key : Key) (cells : List ℕ) → m.body ≡ Body.Snap inc e k key chunk chunks cells → NumberIn inc e k key m.body
+is_snap m inc e k chunk chunks key cells is = subst (λ (b : Body). NumberIn inc e k key b) (sym is) (refl, refl, refl, refl)
+
+pub number_request : (b : Body) (inc e k : ℕ) (key : Key) → NumberIn inc e k key b → request_of b ≡ Some (key, NumberOf e k)
+number_request (Body.Put i f m q delta load) inc e k key h = rw (h.1, h.2, h.3) refl
+number_request (Body.Snap i f m q chunk chunks cells) inc e k key h = rw (h.1, h.2, h.3) refl
+number_request (Body.Ask i m q load) inc e k key h = absurd h
+number_request (Body.Grant i m f q cells load) inc e k key h = absurd h
+number_request (Body.Busy i m q mark) inc e k key h = absurd h
+number_request (Body.Ack i f u q load) inc e k key h = absurd h
+number_request (Body.Deny i f q) inc e k key h = absurd h
+number_request (Body.Forward c i entry load) inc e k key h = absurd h
+number_request (Body.Have i) inc e k key h = absurd h
+number_request (Body.Echo of load) inc e k key h = absurd h
+number_request (Body.Config c) inc e k key h = absurd h
 
 -- an epoch's Grant to switch n
 pub record GrantOf (es : List Entry) (n inc : ℕ) (key : Key) (epoch : ℕ) : Type 0 where
@@ -52,6 +77,7 @@ pub record Known (cells : ℕ) (frames : List Msg) (switches : List SwitchNode) 
   pub me : (n : ℕ) (node : SwitchNode) → slice_get switches n ≡ Some node → node.state.me ≡ n
   pub tidy : (n : ℕ) (node : SwitchNode) → slice_get switches n ≡ Some node → Tidy node.state
   pub leased : (n : ℕ) (node : SwitchNode) (key : Key) (slot : Slot) (e : ℕ) → slice_get switches n ≡ Some node → slot_at node.state key ≡ Some slot → epoch_of slot.lease ≡ Some e → GrantOf (committed_of replicas) n node.state.inc key e
+  pub rounds : (n : ℕ) (node : SwitchNode) (key : Key) (slot : Slot) (r : Round) → slice_get switches n ≡ Some node → slot_at node.state key ≡ Some slot → slot.round ≡ Some r → (1 ≤ r.number) × (r.number ≤ slot.last)
   pub fits : (r : ℕ) (replica : ReplicaNode) (key : Key) → slice_get replicas r ≡ Some replica → FitsFrom cells key None (entries_of replica.book)
   pub committed_fits : (key : Key) → FitsFrom cells key None (committed_of replicas)
   pub within : (r : ℕ) (replica : ReplicaNode) → slice_get replicas r ≡ Some replica → lives replica ≡ true → IsPrefix (committed_of replicas) (entries_of replica.book)
@@ -104,8 +130,8 @@ pub put_parts : (frames ms : List Msg) (n inc e k : ℕ) (key : Key) → PutFram
 put_parts frames ms n inc e k key p = parts_case (in_append frames ms p.msg p.there)
   where
     parts_case : In frames p.msg ⊎ In ms p.msg → PutFrame frames n inc key e k ⊎ PutFrame ms n inc key e k
-    parts_case (inl i) = inl (record { msg = p.msg; there = i; from_is = p.from_is; delta = p.delta; load = p.load; body_is = p.body_is })
-    parts_case (inr i) = inr (record { msg = p.msg; there = i; from_is = p.from_is; delta = p.delta; load = p.load; body_is = p.body_is })
+    parts_case (inl i) = inl (record { msg = p.msg; there = i; from_is = p.from_is; number_in = p.number_in })
+    parts_case (inr i) = inr (record { msg = p.msg; there = i; from_is = p.from_is; number_in = p.number_in })
 
 -- ---- a switch takes an input
 
@@ -208,7 +234,7 @@ module _ (app : Application) (frames : List Msg) (switches : List SwitchNode) (r
             node_case (inl same) = was_awaited same.0 same.1 (step_was app node.state node.clock input key a.slot (ap (λ (x : SwitchNode). slot_at x.state key) (sym same.1) ∙ a.found))
             node_case (inr p) = f.awaited (record { n = a.n; node = a.node; slot = a.slot; nonce = a.nonce; first = a.first; r = a.r; replica = a.replica; at = p.1; found = a.found; asking = a.asking; here = a.here; up = a.up; granted = a.granted })
 
-    -- a Put that is sent now
+    -- a number that is sent now
     record OwnPut (m inc : ℕ) (key : Key) (e number : ℕ) : Type 0 where
       sender : m ≡ n
       inc_is : inc ≡ state.inc
@@ -217,13 +243,35 @@ module _ (app : Application) (frames : List Msg) (switches : List SwitchNode) (r
     own_put : (m inc e number : ℕ) (key : Key) → PutFrame sent m inc key e number → OwnPut m inc key e number
     own_put m inc e number key p =
         let s : SentNow state p.msg = each_in (SentNow state) sent p.msg (step_says app node.state node.clock input (k.tidy n node at)) p.there in
-        let q : PutsNow state inc e number key p.delta = subst (λ (b : Body). SaysNow state b) p.body_is s.1 in
         let from : Node.Switch m ≡ Node.Switch state.me = sym p.from_is ∙ s.0 in
         let sender : m ≡ state.me = cc in
-        let fit = each_in (HasSlot state.slots) state.copies q.copy (later.tidy n moved at_after).copies q.there in
-        let same : fit.slot ≡ q.slot = same_some (slot_at state key) fit.slot q.slot (subst (λ (x : Key). slot_at state x ≡ Some fit.slot) q.key_is fit.found) q.found in
-        let last : fit.slot.last ≡ q.slot.last = ap (λ (x : Slot). x.last) same in
-        record { sender = sender ∙ later.me n moved at_after; inc_is = q.here; here = (q.slot, q.found, q.leased, omega (arith, q.number_is, fit.number, last)) }
+        let h = number_now p.msg.body s.1 p.number_in in
+        record { sender = sender ∙ later.me n moved at_after; inc_is = h.0; here = h.1 }
+      where
+        put_now : (i f k : ℕ) (q : Key) (delta : Delta) → PutsNow state i f k q delta → (i ≡ state.inc) × Here q f k
+        put_now i f k q delta h =
+            let fit = each_in (HasSlot state.slots) state.copies h.copy (later.tidy n moved at_after).copies h.there in
+            let same : fit.slot ≡ h.slot = same_some (slot_at state q) fit.slot h.slot (subst (λ (x : Key). slot_at state x ≡ Some fit.slot) h.key_is fit.found) h.found in
+            let last : fit.slot.last ≡ h.slot.last = ap (λ (x : Slot). x.last) same in
+            (h.here, (h.slot, h.found, h.leased, omega (arith, h.number_is, fit.number, last)))
+
+        snap_now : (i f k : ℕ) (q : Key) (chunk chunks : ℕ) (cells : List ℕ) → SnapsNow state i f k q chunk chunks cells → (i ≡ state.inc) × Here q f k
+        snap_now i f k q chunk chunks cells h =
+            let r = later.rounds n moved q h.slot h.running at_after h.found h.round_is in
+            (h.here, (h.slot, h.found, h.leased, omega (arith, h.number_is, r.1)))
+
+        number_now : (b : Body) → SaysNow state b → NumberIn inc e number key b → (inc ≡ state.inc) × Here key e number
+        number_now (Body.Put i f k q delta load) h is = rw (← is.0, ← is.1, ← is.2, ← is.3) (put_now i f k q delta h)
+        number_now (Body.Snap i f k q chunk chunks cells) h is = rw (← is.0, ← is.1, ← is.2, ← is.3) (snap_now i f k q chunk chunks cells h)
+        number_now (Body.Ask i m q load) h is = absurd is
+        number_now (Body.Grant i m f q cells load) h is = absurd is
+        number_now (Body.Busy i m q mark) h is = absurd is
+        number_now (Body.Ack i f u q load) h is = absurd is
+        number_now (Body.Deny i f q) h is = absurd is
+        number_now (Body.Forward c i entry load) h is = absurd is
+        number_now (Body.Have i) h is = absurd is
+        number_now (Body.Echo of load) h is = absurd is
+        number_now (Body.Config c) h is = absurd is
 
     put_granted : (m inc e number : ℕ) (key : Key) → PutFrame frames m inc key e number ⊎ PutFrame sent m inc key e number → GrantOf (committed_of replicas) m inc key e
     put_granted m inc e number key (inl p) = h.granted m inc e number key p

@@ -36,7 +36,7 @@ use Rattle.proto_safety.proofs.StoreBooks.{SentBooks}
 use Rattle.proto_safety.proofs.BooksStep.{step_sent, moved_committed}
 use Rattle.proto_safety.proofs.WorldBooks.{known_input, advanced_committed, stopped_grows}
 use Rattle.proto_safety.proofs.WorldFlows.{told_input}
-use Rattle.proto_safety.proofs.WorldPuts.{Known, Owned, PutsFit, moved_puts}
+use Rattle.proto_safety.proofs.WorldPuts.{NumberIn, Known, Owned, PutsFit, moved_puts}
 use Rattle.proto_safety.proofs.PutsKept.{NoPut, SlotWas, GrantWas, not_again, changed_puts}
 use Rattle.proto_safety.proofs.Ground.{Ground, ground_kept, known_of}
 use Rattle.proto_safety.proofs.Induction.{KeepsGiven, Comes, with_fed}
@@ -73,7 +73,20 @@ same_prefix es = record { rest = []; is = append-nil es }
 -- ---- a replica's step
 
 no_put : (r : Replica) (es : List Entry) (m : Msg) → SentBooks r es m.from m.to m.body → NoPut m
-no_put r es m s inc e k key delta load is = subst (λ (b : Body). SentBooks r es m.from m.to b) is s
+no_put r es m s inc e k key is = body_case m.body s is
+  where
+    body_case : (b : Body) → SentBooks r es m.from m.to b → NumberIn inc e k key b → ⊥
+    body_case (Body.Put i f n q delta load) s is = absurd s
+    body_case (Body.Snap i f n q chunk chunks cells) s is = absurd s
+    body_case (Body.Ask i n q load) s is = absurd is
+    body_case (Body.Grant i n f q cells load) s is = absurd is
+    body_case (Body.Busy i n q mark) s is = absurd is
+    body_case (Body.Ack i f u q load) s is = absurd is
+    body_case (Body.Deny i f q) s is = absurd is
+    body_case (Body.Forward c i entry load) s is = absurd is
+    body_case (Body.Have i) s is = absurd is
+    body_case (Body.Echo of load) s is = absurd is
+    body_case (Body.Config c) s is = absurd is
 
 applied_grants : (app : Application) (w : World) (n : ℕ) (node : ReplicaNode) (input : Input) (book : List Booked) → slice_get w.replicas n ≡ Some node → lives node ≡ true → Known app.cell_count w.frames w.switches w.replicas →
     (new : ReplicaNode) → new.book ≡ book_after node.clock w.event node.book (store_step node.state node.clock input).1.applied →
@@ -121,8 +134,8 @@ stopped_grants nodes n r replica key e s i m at up there = node_case (at_changed
 announced_no_puts : (w : World) → Each NoPut (announcements w)
 announced_no_puts w =
     each_append NoPut (map (λ n. config_msg w (Node.Switch n)) (running_switches w)) _
-    (each_map NoPut (λ n. config_msg w (Node.Switch n)) (running_switches w) (λ n inc e k key delta load is. let no : Body.Config w.config ≡ Body.Put inc e k key delta load = is in cc))
-    (each_map NoPut (λ n. config_msg w (Node.Replica n)) (running_replicas w) (λ n inc e k key delta load is. let no : Body.Config w.config ≡ Body.Put inc e k key delta load = is in cc))
+    (each_map NoPut (λ n. config_msg w (Node.Switch n)) (running_switches w) (λ n inc e k key is. absurd is))
+    (each_map NoPut (λ n. config_msg w (Node.Replica n)) (running_replicas w) (λ n inc e k key is. absurd is))
 
 -- ---- every change
 

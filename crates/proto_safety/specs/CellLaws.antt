@@ -1,5 +1,5 @@
 -- What the protocol promises of cells, in strict mode.
-use Rattle.std.specs.Prelude.{◌⊎◌, ℕ, ◌≡◌, ◌≢◌, ◌≤◌, ◌==◌, nat_lt, false, List, [], ◌∷◌, ◌++◌, Option, Some, None, slice_get, map, filter, flat_map, filter_map}
+use Rattle.std.specs.Prelude.{◌⊎◌, ℕ, ◌≡◌, ◌≢◌, ◌≤◌, ◌-◌, ◌==◌, nat_lt, false, List, [], ◌∷◌, ◌++◌, Option, Some, None, slice_get, map, filter, flat_map, filter_map}
 use Rattle.rp_base.specs.declared.node.Node.{Node}
 use Rattle.proto_data.specs.declared.message.Body.{Body}
 use Rattle.proto_data.specs.declared.message.Entry.{Entry}
@@ -112,15 +112,15 @@ abbrev pub SlotRests : List Entry → ℕ → ℕ → Key → Option Slot → Li
 SlotRests es n inc key None cs = Unit {0}
 SlotRests es n inc key (Some slot) cs = Rests es n inc key slot.lease slot.last cs
 
--- in snapshot mode a leased slot's Grant is committed; a running round has the slot's last number, and without one this number is
--- committed; other slots have no round
+-- in snapshot mode a leased slot's Grant is committed; a running round has the slot's last number, the one before
+-- is committed, and without a running round the last is; other slots have no round
 abbrev pub RoundRests : List Entry → ℕ → ℕ → Key → Lease → ℕ → Option Round → Type 0
 RoundRests es n inc key Idle last round = round ≡ None
 RoundRests es n inc key (Asking nonce first) last round = round ≡ None
 RoundRests es n inc key (Held nonce epoch expiry) last None = In es (Entry.Grant key epoch n inc nonce) × AckedIn es epoch last key
-RoundRests es n inc key (Held nonce epoch expiry) last (Some r) = In es (Entry.Grant key epoch n inc nonce) × (r.number ≡ last)
+RoundRests es n inc key (Held nonce epoch expiry) last (Some r) = In es (Entry.Grant key epoch n inc nonce) × (r.number ≡ last) × AckedIn es epoch (last - 1) key
 RoundRests es n inc key (Lapsed nonce epoch expiry) last None = In es (Entry.Grant key epoch n inc nonce) × AckedIn es epoch last key
-RoundRests es n inc key (Lapsed nonce epoch expiry) last (Some r) = In es (Entry.Grant key epoch n inc nonce) × (r.number ≡ last)
+RoundRests es n inc key (Lapsed nonce epoch expiry) last (Some r) = In es (Entry.Grant key epoch n inc nonce) × (r.number ≡ last) × AckedIn es epoch (last - 1) key
 
 abbrev pub SlotRounds : List Entry → ℕ → ℕ → Key → Option Slot → Type 0
 SlotRounds es n inc key None = Unit {0}

@@ -22,3 +22,4 @@ pub mod FirstLaws
 pub mod LegalLines
 pub mod EpochOrder
 pub mod RuleRows
+pub mod LossLaws

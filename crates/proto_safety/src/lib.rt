@@ -12,6 +12,7 @@ pub mod lease_basis;
 pub mod leases;
 pub mod legal;
 pub mod linked;
+pub mod losses;
 pub mod marks;
 pub mod replies;
 pub mod reports;

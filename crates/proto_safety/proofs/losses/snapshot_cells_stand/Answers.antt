@@ -1,0 +1,5 @@
+use Rattle.proto_safety.proofs.SnapRun.{snapshot_cells}
+use Rattle.proto_safety.proofs.losses.snapshot_cells_stand.Goals as goal
+
+pub returns : goal.returns
+returns c = snapshot_cells

@@ -1,0 +1,5 @@
+use Rattle.proto_safety.proofs.LossRun.{histories_stand}
+use Rattle.proto_safety.proofs.losses.snapshot_histories_stand.Goals as goal
+
+pub returns : goal.returns
+returns c = histories_stand
