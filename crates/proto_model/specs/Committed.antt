@@ -1,5 +1,6 @@
 -- What is committed: the book of the last running replica, and what follows from it for each flow.
 use Rattle.std.specs.Prelude.{ℕ, Bool, false, ◌&&◌, ◌==◌, List, [], ◌∷◌, Option, Some, None, if◌then◌else◌, nat_le, max, map, filter, fold, filter_map, flat_map}
+use Rattle.rp_base.specs.declared.legality.Flow.{Flow}
 use Rattle.proto_data.specs.declared.message.Entry.{Entry}
 use Rattle.proto_data.specs.declared.message.Record.{Record}
 use Rattle.proto_model.specs.Table.{Key, get, same_key}
@@ -74,9 +75,10 @@ cells_at (Some r) = r.cells
 abbrev pub committed_cells : ℕ → World → Key → List ℕ
 committed_cells cells w key = cells_at (get (committed_records cells w) key)
 
--- the flows in order of their first Grant, with the marks of their serial lists and their cells
-abbrev pub Closing : Type 0
-Closing = Key × List ℕ × List ℕ
+-- a flow with the marks of its serial list and its cells
+abbrev pub committed_flow : World → Key × Record → Flow
+committed_flow w e = record { key = e.0; marks = serial_marks w e.0; cells = e.1.cells }
 
-abbrev pub closings : ℕ → World → List Closing
-closings cells w = map (λ (e : Key × Record). (e.0, serial_marks w e.0, e.1.cells)) (committed_records cells w)
+-- the flows in order of their first Grant
+abbrev pub committed_flows : ℕ → World → List Flow
+committed_flows cells w = map (committed_flow w) (committed_records cells w)

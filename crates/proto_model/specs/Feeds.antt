@@ -3,7 +3,7 @@ use Rattle.std.specs.Prelude.{ℕ, ◌==◌, List, [], ◌∷◌, Option, find, 
 use Rattle.rp_base.specs.declared.node.Packet.{Packet}
 use Rattle.proto_model.specs.Table.{Key}
 use Rattle.rp_app.specs.Application.{Application}
-use Rattle.proto_model.specs.World.{Fed}
+use Rattle.rp_base.specs.declared.legality.Fed.{Fed}
 
 -- the packet that was fed at a mark
 abbrev pub fed_at : List Fed → ℕ → Option Fed

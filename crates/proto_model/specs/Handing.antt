@@ -1,8 +1,9 @@
 -- A frame that comes over a link: which one its bytes are, and its delivery within the present event.
-use Rattle.std.specs.Prelude.{ℕ, ◌+◌, Bool, true, false, ◌&&◌, ◌==◌, List, [], ◌∷◌, Option, Some, None, if◌then◌else◌, slice_get}
+use Rattle.std.specs.Prelude.{ℕ, ◌+◌, ◌&&◌, List, [], ◌∷◌, Option, Some, None, if◌then◌else◌, slice_get}
 use Rattle.std.specs.Str.{bytes_eq}
 use Rattle.proto_data.specs.declared.message.Msg.{Msg}
 use Rattle.rp_base.specs.declared.node.Node.{Node}
+use Rattle.rp_base.specs.Nodes.{same_node}
 use Rattle.proto_data.specs.declared.message.Input.{Input}
 use Rattle.rp_app.specs.Application.{Application}
 use Rattle.proto_model.specs.World.{World}
@@ -16,12 +17,6 @@ handed app w i (Some m) = node_takes app (frame_passed w i) m.to (Input.Msg m)
 -- Frame i is delivered within the present event. It was sent, its addressee runs, and there is room for 64 more frames.
 abbrev pub hand : Application → World → ℕ → WorldStep
 hand app w i = handed app w i (slice_get w.frames i)
-
-abbrev pub same_node : Node → Node → Bool
-same_node (Node.Switch n) (Node.Switch m) = n == m
-same_node (Node.Replica n) (Node.Replica m) = n == m
-same_node Node.Master Node.Master = true
-same_node _ _ = false
 
 -- the first frame of these bytes that was sent to this node; `spelled` are a message's bytes
 abbrev pub found_from : (Msg → List ℕ) → Node → List ℕ → ℕ → List Msg → Option ℕ

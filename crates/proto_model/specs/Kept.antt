@@ -3,7 +3,8 @@ use Rattle.std.specs.Prelude.{ℕ, zero, suc, ◌≡◌, ◌<◌, ◌+◌, ◌-�
 use Rattle.std.specs.List.{IsAmong}
 use Rattle.proto_model.specs.Table.{Key, same_key}
 use Rattle.rp_app.specs.Application.{Application, after, zeros}
-use Rattle.proto_model.specs.World.{World, Journaled, Released, RoundBegun}
+use Rattle.proto_model.specs.World.{World, Journaled, RoundBegun}
+use Rattle.rp_base.specs.declared.legality.Released.{Released}
 use Rattle.proto_model.specs.Feeds.{packets_at, Each}
 use Rattle.proto_model.specs.Legal.{IsOutputIn}
 use Rattle.proto_model.specs.Committed.{journal, closing, is_in, epochs_of, committed_book, committed_cells}

@@ -1,20 +1,23 @@
--- What a strict run may show: outputs of one switch along each flow's serial list.
+-- What a strict run may show: outputs of one switch along each flow's serial list. The lists may be those of a history or of a report.
 use Rattle.std.specs.Prelude.{ℕ, ◌≡◌, ◌≢◌, ◌<◌, ◌==◌, not, List, [], ◌∷◌, ◌++◌, Some, None, flat_map, take_while, find, option_map, unwrap_or}
 use Rattle.std.specs.List.{IsAmong}
 use Rattle.rp_base.specs.declared.node.Output.{Output}
 use Rattle.rp_base.specs.declared.node.Packet.{Packet}
 use Rattle.proto_model.specs.Table.{Key, same_key}
 use Rattle.rp_app.specs.Application.{Application, after, zeros}
-use Rattle.proto_model.specs.World.{World, Fed, Released}
+use Rattle.proto_model.specs.World.{World}
+use Rattle.rp_base.specs.declared.legality.Fed.{Fed}
+use Rattle.rp_base.specs.declared.legality.Released.{Released}
 use Rattle.proto_model.specs.Feeds.{fed_at, packet_at, key_at, packets_at, Each, Pairwise}
-use Rattle.proto_model.specs.Committed.{Closing, closings}
+use Rattle.proto_model.specs.Committed.{committed_flows}
+use Rattle.rp_base.specs.declared.legality.Flow.{Flow}
 
 -- the serial list of a key; a key without one has the empty list
-abbrev pub marks_of : List Closing → Key → List ℕ
-marks_of flows key = unwrap_or (option_map (λ (f : Closing). f.1) (find (λ (f : Closing). same_key f.0 key) flows)) []
+abbrev pub marks_of : List Flow → Key → List ℕ
+marks_of flows key = unwrap_or (option_map (λ (f : Flow). f.marks) (find (λ (f : Flow). same_key f.key key) flows)) []
 
-abbrev pub all_marks : List Closing → List ℕ
-all_marks flows = flat_map (λ (f : Closing). f.1) flows
+abbrev pub all_marks : List Flow → List ℕ
+all_marks flows = flat_map (λ (f : Flow). f.marks) flows
 
 -- the cells after these marks, from cells that are all 0
 abbrev pub folded : Application → List Fed → List ℕ → List ℕ
@@ -38,9 +41,9 @@ abbrev pub ReleasedBefore : List Fed → List Released → ℕ → ℕ → Type 
 ReleasedBefore fed released m q =
     (r : Released) × (f : Fed) × IsAmong released r × (fed_at fed q ≡ Some f) × (r.output.mark ≡ m) × (r.event < f.event)
 
-pub record Legal (app : Application) (fed : List Fed) (released : List Released) (flows : List Closing) : Type 0 where
+pub record Legal (app : Application) (fed : List Fed) (released : List Released) (flows : List Flow) : Type 0 where
   -- each mark of a serial list was fed and has that list's key
-  pub fed_with_key : Each (λ (f : Closing). Each (λ m. key_at app fed m ≡ Some f.0) f.1) flows
+  pub fed_with_key : Each (λ (f : Flow). Each (λ m. key_at app fed m ≡ Some f.key) f.marks) flows
   -- and stands once over all lists
   pub each_once : Pairwise (λ a b. a ≢ b) (all_marks flows)
   -- a released mark with a key stands in that key's list, and its output is that of one switch after the marks before it
@@ -53,9 +56,11 @@ pub record Legal (app : Application) (fed : List Fed) (released : List Released)
   -- each mark is released once
   pub released_once : Pairwise (λ (a b : Released). a.output.mark ≢ b.output.mark) released
   -- in no list a mark stands before one that was released before it was fed
-  pub in_order : Each (λ (f : Closing). Pairwise (λ q m. ¬ ReleasedBefore fed released m q) f.1) flows
+  pub in_order : Each (λ (f : Flow). Pairwise (λ q m. ¬ ReleasedBefore fed released m q) f.marks) flows
+  -- nor was one of them released before it was fed itself
+  pub none_early : Each (λ (f : Flow). Each (λ m. ¬ ReleasedBefore fed released m m) f.marks) flows
   -- the cells are the fold of the list
-  pub cells_folded : Each (λ (f : Closing). f.2 ≡ folded app fed f.1) flows
+  pub cells_folded : Each (λ (f : Flow). f.cells ≡ folded app fed f.marks) flows
   -- a released mark without a key was fed, and its output is that of one switch
   pub released_without_key :
       Each (λ (r : Released).
@@ -64,4 +69,4 @@ pub record Legal (app : Application) (fed : List Fed) (released : List Released)
 
 -- the history of a run is legal
 abbrev pub IsLegal : Application → World → Type 0
-IsLegal app w = Legal app w.history.fed w.history.released (closings app.cell_count w)
+IsLegal app w = Legal app w.history.fed w.history.released (committed_flows app.cell_count w)

@@ -1,11 +1,10 @@
-pub mod Carrying
 pub mod Table
 pub mod Ring
 pub mod Slot
 pub mod SwitchState
 pub mod SwitchAlarm
 pub mod SwitchRow
-pub mod SwitchActs
+pub mod SwitchOutcomes
 pub mod SwitchRows
 pub mod Records
 pub mod ReplicaState

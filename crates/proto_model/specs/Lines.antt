@@ -1,8 +1,9 @@
--- The lines of a report, and the kinds of frames that they name.
-use Rattle.std.specs.Prelude.{ℕ, ◌+◌, List, [], ◌∷◌}
+-- The lines of a run, the kinds of frames that they name, and how a report prints them.
+use Rattle.std.specs.Prelude.{ℕ, ◌+◌, List, [], ◌∷◌, map}
 use Rattle.proto_data.specs.declared.message.Msg.{Msg}
 use Rattle.proto_data.specs.declared.message.Body.{Body}
 use Rattle.rp_base.specs.declared.node.Node.{Node}
+use Rattle.rp_base.specs.declared.line.Line.{Line as Printed}
 use Rattle.rp_base.specs.declared.event.DropCause.{DropCause}
 use Rattle.rp_base.specs.declared.event.Lost.{Lost}
 use Rattle.rp_base.specs.declared.event.Refusal.{Refusal}
@@ -35,7 +36,7 @@ kind_of (Body.Echo of load) = EchoKind
 kind_of (Body.Config config) = ConfigKind
 kind_of (Body.Snap inc epoch round key chunk chunks cells) = SnapKind
 
--- One line of a report. A sent frame's line holds the message that its bytes spell.
+-- One line of a run. A sent frame's line holds the message that its bytes spell.
 pub data Line : Type 0 where
   Release : (event mark port : ℕ) (bytes : List ℕ) → Line
   Dropped : (event mark : ℕ) (cause : DropCause) → Line
@@ -61,3 +62,19 @@ abbrev pub without_sends : List Line → List Line
 without_sends [] = []
 without_sends (Send event frame from to kind m ∷ ls) = without_sends ls
 without_sends (l ∷ ls) = l ∷ without_sends ls
+
+-- a line as a report prints it: that of a sent frame has the byte of its message's kind and the bytes that spell the message
+abbrev pub printed_line : (Body → ℕ) → (Msg → List ℕ) → Line → Printed
+printed_line kind spelled (Release event mark port bytes) = Printed.Release event mark port bytes
+printed_line kind spelled (Dropped event mark cause) = Printed.Drop event mark cause
+printed_line kind spelled (LostLine event cause) = Printed.Lost event cause
+printed_line kind spelled (Refused event cause) = Printed.Refused event cause
+printed_line kind spelled (Stranger event node) = Printed.Stranger event node
+printed_line kind spelled (Send event frame from to named msg) = Printed.Send event frame from to (kind msg.body) (spelled msg)
+printed_line kind spelled (Serial key marks) = Printed.Serial key marks
+printed_line kind spelled (Epoch key epoch kept marks) = Printed.Epoch key epoch kept marks
+printed_line kind spelled (CellsLine key cells) = Printed.Cells key cells
+printed_line kind spelled End = Printed.End
+
+abbrev pub printed : (Body → ℕ) → (Msg → List ℕ) → List Line → List Printed
+printed kind spelled lines = map (printed_line kind spelled) lines

@@ -3,7 +3,8 @@ use Rattle.std.specs.Prelude.{ℕ, ◌≡◌, ◌≢◌, ◌<◌, ◌⊎◌, Som
 use Rattle.proto_data.specs.declared.message.Record.{Record}
 use Rattle.proto_model.specs.Table.{Key}
 use Rattle.rp_app.specs.Application.{Application, zeros}
-use Rattle.proto_model.specs.World.{World, Journaled, Released}
+use Rattle.proto_model.specs.World.{World, Journaled}
+use Rattle.rp_base.specs.declared.legality.Released.{Released}
 use Rattle.proto_model.specs.Feeds.{key_at, Each, Pairwise}
 use Rattle.proto_model.specs.Legal.{IsOutputIn, ReleasedBefore}
 use Rattle.proto_model.specs.Committed.{journal, committed_records}

@@ -13,7 +13,7 @@ use Rattle.proto_data.specs.declared.message.Carried.{Carried}
 use Rattle.proto_data.specs.declared.message.Record.{Record}
 use Rattle.rp_base.specs.declared.event.DropCause.{DropCause}
 use Rattle.rp_app.specs.Application.{Delta}
-use Rattle.proto_model.specs.Carrying.{carried_packet, carried_output}
+use Rattle.proto_data.specs.Carrying.{carried_packet, carried_output}
 use Rattle.proto_model.specs.Table.{Key, same_key}
 use Rattle.proto_model.specs.Ring.{remembers}
 use Rattle.proto_model.specs.Slot.{Lease, Slot, Asking, is_young}
@@ -21,7 +21,8 @@ use Rattle.proto_model.specs.SwitchState.{slot_at}
 use Rattle.proto_model.specs.SwitchRow.{has_epoch}
 use Rattle.proto_model.specs.ReplicaState.{is_tail, record_at}
 use Rattle.proto_model.specs.ReplicaRows.{StoreRow, Appends, store_row}
-use Rattle.proto_model.specs.World.{World, SwitchNode, ReplicaNode, Journaled, Released}
+use Rattle.proto_model.specs.World.{World, SwitchNode, ReplicaNode, Journaled}
+use Rattle.rp_base.specs.declared.legality.Released.{Released}
 use Rattle.proto_model.specs.Lines.{Dropped}
 use Rattle.proto_model.specs.Feeds.{Each}
 use Rattle.proto_model.specs.WorldStep.{Act, Delivers, Stops, Boots, Detects}

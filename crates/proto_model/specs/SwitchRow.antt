@@ -9,7 +9,7 @@ use Rattle.proto_data.specs.declared.message.Input.{Input}
 use Rattle.proto_data.specs.declared.terms.Mode.{Mode}
 use Rattle.rp_base.specs.declared.event.DropCause.{DropCause}
 use Rattle.rp_app.specs.Application.{Application, Delta, zeros}
-use Rattle.proto_model.specs.Carrying.{packet_of}
+use Rattle.proto_data.specs.Carrying.{packet_of}
 use Rattle.proto_model.specs.Table.{Key}
 use Rattle.proto_model.specs.Ring.{remembers, forget}
 use Rattle.proto_model.specs.Slot.{Lease, Slot, Round, Idle, Asking, Held, Lapsed, fresh_slot, is_young, may, updated, no_ages}

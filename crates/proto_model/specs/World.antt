@@ -2,8 +2,9 @@
 use Rattle.std.specs.Prelude.{ℕ, ◌+◌, Bool, true, List, [], ◌∷◌, Option, if◌then◌else◌, map}
 use Rattle.std.specs.List.{range_with_len}
 use Rattle.proto_data.specs.declared.message.Msg.{Msg}
-use Rattle.rp_base.specs.declared.node.Packet.{Packet}
 use Rattle.rp_base.specs.declared.node.Output.{Output}
+use Rattle.rp_base.specs.declared.legality.Fed.{Fed}
+use Rattle.rp_base.specs.declared.legality.Released.{Released}
 use Rattle.proto_data.specs.declared.message.Config.{Config}
 use Rattle.proto_data.specs.declared.terms.Terms.{Terms}
 use Rattle.proto_model.specs.SwitchState.{Switch, Item, Begun, open_switch}
@@ -24,15 +25,7 @@ pub record ReplicaNode : Type 0 where
   pub state : Replica
   pub book : List Booked
 
--- what was fed, released, processed and begun, each with the number of its event
-pub record Fed : Type 0 where
-  pub event : ℕ
-  pub packet : Packet
-
-pub record Released : Type 0 where
-  pub event : ℕ
-  pub output : Output
-
+-- what was processed and begun, each with the number of its event
 pub record Journaled : Type 0 where
   pub event : ℕ
   pub item : Item

@@ -131,16 +131,17 @@ is_replica Node.Master = false
 abbrev pub padded : World → List ℕ → List ℕ
 padded w by = take (length w.switches + length w.replicas) (by ++ zeros (length w.switches + length w.replicas))
 
-abbrev pub packet_at : World → ℕ → List ℕ → Packet
-packet_at w port bytes = record { mark = w.event; port = port; bytes = bytes }
+-- the packet that the present event feeds; its mark is the event's number
+abbrev pub event_packet : World → ℕ → List ℕ → Packet
+event_packet w port bytes = record { mark = w.event; port = port; bytes = bytes }
 
 -- the act of an event, or the first cause that refuses it; `w` counts the event already
 abbrev pub act_of : Application → World → Event → Act
 act_of app w (Event.Feed port bytes) =
     refuses_if (frames_full w) Refusal.FramesFull
-    (feed_picked w (packet_at w port bytes) (picked (believed_switches w) (app.key_of (packet_at w port bytes))))
+    (feed_picked w (event_packet w port bytes) (picked (believed_switches w) (app.key_of (event_packet w port bytes))))
 act_of app w (Event.FeedAt n port bytes) =
-    refuses_if (frames_full w) Refusal.FramesFull (feed_at w n (packet_at w port bytes))
+    refuses_if (frames_full w) Refusal.FramesFull (feed_at w n (event_packet w port bytes))
 act_of app w (Event.Deliver i) =
     refuses_if (frames_full w) Refusal.FramesFull (refuses_if w.linked Refusal.Linked (deliver_act w (numbered_frame w i)))
 act_of app w Event.Next =

@@ -12,7 +12,7 @@ use Rattle.rp_base.specs.declared.event.Refusal.{Refusal}
 use Rattle.rp_app.specs.Application.{Application, zeros}
 use Rattle.proto_model.specs.Routing.{picked}
 use Rattle.proto_model.specs.World.{World, believed_switches, running_replicas}
-use Rattle.proto_model.specs.WorldStep.{Act, Feeds, Delivers, Passes, Advances, Alarms, Stops, Boots, Detects, Announces, Pumps, act_of, refuses_if, feed_at, feed_picked, packet_at, deliver_act, next_act, numbered_frame, next_from, is_next, runs_now, believed_up, frames_full, rates_hold, padded, is_replica}
+use Rattle.proto_model.specs.WorldStep.{Act, Feeds, Delivers, Passes, Advances, Alarms, Stops, Boots, Detects, Announces, Pumps, act_of, refuses_if, feed_at, feed_picked, event_packet, deliver_act, next_act, numbered_frame, next_from, is_next, runs_now, believed_up, frames_full, rates_hold, padded, is_replica}
 
 -- an act behind a test: the test failed
 passed_test : (w : World) (b : Bool) (cause : Refusal) (act : Act) → (b ≡ false → Fits w act) → Fits w (refuses_if b cause act)
@@ -61,11 +61,11 @@ length_padded w by =
 pub act_fits : (app : Application) (w : World) (e : Event) → Fits w (act_of app w e)
 act_fits app w (Event.Feed port bytes) =
     passed_test w (frames_full w) Refusal.FramesFull
-    (feed_picked w (packet_at w port bytes) (picked (believed_switches w) (app.key_of (packet_at w port bytes))))
-    (λ room. picked_fits w (packet_at w port bytes) (picked (believed_switches w) (app.key_of (packet_at w port bytes))) refl)
+    (feed_picked w (event_packet w port bytes) (picked (believed_switches w) (app.key_of (event_packet w port bytes))))
+    (λ room. picked_fits w (event_packet w port bytes) (picked (believed_switches w) (app.key_of (event_packet w port bytes))) refl)
 act_fits app w (Event.FeedAt n port bytes) =
-    passed_test w (frames_full w) Refusal.FramesFull (feed_at w n (packet_at w port bytes))
-    (λ room. feed_fits w n (packet_at w port bytes) refl)
+    passed_test w (frames_full w) Refusal.FramesFull (feed_at w n (event_packet w port bytes))
+    (λ room. feed_fits w n (event_packet w port bytes) refl)
 act_fits app w (Event.Deliver i) =
     passed_test w (frames_full w) Refusal.FramesFull (refuses_if w.linked Refusal.Linked (deliver_act w (numbered_frame w i)))
     (λ room. passed_test w w.linked Refusal.Linked (deliver_act w (numbered_frame w i)) (λ here. deliver_fits w i (slice_get w.frames i) refl))

@@ -69,8 +69,8 @@ ages_kept app bound =
       announces = λ w c h. h;
     }
 
-pub ages_after : (app : Application) (setup : Setup) (bound : ℕ) → setup.terms.mode ≡ Mode.Snapshot bound → TermsHold setup.terms.t_switch setup.terms.t_store setup.terms.ratio → 1 ≤ setup.terms.t_store → (events : List Event) →
+pub ages_after : (app : Application) (setup : Setup) (bound : ℕ) → setup.terms.mode ≡ Mode.Snapshot bound → TermsHold setup.terms.t_switch setup.terms.t_store setup.terms.ratio → (events : List Event) →
     AgesHold (world_after app (opened app.cell_count setup) events)
-ages_after app setup bound mode hold some events =
+ages_after app setup bound mode hold events =
     (run_kept app (λ w. Celled app bound w × AgesHold w) (keeps_both app (Celled app bound) AgesHold (celled_kept app bound) (ages_kept app bound)) events (opened app.cell_count setup)
-    (celled_after app setup bound mode hold some [], all_opened (λ n (node : SwitchNode). AgesTable [] [] node.clock node.state.slots) setup (λ n key slot e found leased. let none : None ≡ Some slot = found in cc))).1
+    (celled_after app setup bound mode hold [], all_opened (λ n (node : SwitchNode). AgesTable [] [] node.clock node.state.slots) setup (λ n key slot e found leased. let none : None ≡ Some slot = found in cc))).1

@@ -1,25 +1,32 @@
 -- After every list of events each book has one Grant for each epoch that it has entries of.
-use Rattle.std.proofs.Common.{◌≡◌, ℕ, List, [], Option, Some, None, refl, sym, ◌∙◌, subst, inl, inr, slice_get}
+use Rattle.std.proofs.Common.{◌≡◌, ℕ, List, [], ◌∷◌, ◌++◌, Option, Some, None, refl, sym, ◌∙◌, subst, inl, inr, slice_get, append_assoc}
 use Rattle.proto_data.specs.declared.message.Entry.{Entry}
 use Rattle.rp_base.specs.declared.event.Event.{Event}
 use Rattle.rp_app.specs.Application.{Application}
 use Rattle.proto_model.specs.Table.{Key}
 use Rattle.proto_model.specs.World.{World, Setup, ReplicaNode, opened}
 use Rattle.proto_model.specs.WorldStep.{world_after}
-use Rattle.proto_safety.specs.Books.{In, BooksHold, entries_at, book_of, committed_of}
-use Rattle.proto_safety.specs.Epochs.{IsGranted, EpochsOf}
+use Rattle.proto_safety.specs.Books.{In, IsGranted, BooksHold, entries_at, book_of, committed_of}
+use Rattle.proto_safety.specs.Epochs.{EpochsOf}
 use Rattle.proto_safety.specs.Flows.{FitsFrom}
-use Rattle.proto_safety.proofs.BookEpochs.{WasGranted, was_granted, one_grant, one_place, in_middle}
+use Rattle.proto_safety.proofs.BookEpochs.{WasGranted, was_granted, one_grant, one_place, in_middle, fits_parts}
 use Rattle.proto_safety.proofs.Lists.{each_at}
 use Rattle.proto_safety.proofs.LastBook.{Found, find_last, last_book, none_book}
 use Rattle.proto_safety.proofs.WorldBooks.{books_kept, books_hold}
 use Rattle.proto_safety.proofs.WorldFits.{BooksFit, NodeFits, fits_kept, opened_fits}
 use Rattle.proto_safety.proofs.Induction.{keeps_both, run_kept}
 
+pub is_granted : (es : List Entry) (key : Key) (epoch : ℕ) → WasGranted key None es epoch → IsGranted es key epoch
+is_granted es key epoch (inl g) = record { switch = g.0; inc = g.1.0; nonce = g.1.1.0; there = g.1.1.1 }
+is_granted es key epoch (inr f) = let no : None ≡ Some f.0 = f.1.0 in cc
+
 pub fitting_epochs : (n : ℕ) (es : List Entry) → ((key : Key) → FitsFrom n key None es) → EpochsOf es
 fitting_epochs n es fits =
     record {
-      granted = λ key epoch e i h. granted_case key epoch (was_granted n key None es e epoch (fits key) i h);
+      granted = λ key epoch e front behind is h.
+          let whole : es ≡ (front ++ e ∷ []) ++ behind = is ∙ sym (append_assoc front (e ∷ []) behind) in
+          let here : FitsFrom n key None (front ++ e ∷ []) = (fits_parts n key None (front ++ e ∷ []) behind (subst (λ l. FitsFrom n key None l) whole (fits key))).0 in
+          is_granted (front ++ e ∷ []) key epoch (was_granted n key None (front ++ e ∷ []) e epoch here (in_middle front [] e) h);
       one = λ key epoch s i m t j p front behind other rest a b.
           let there : In es (Entry.Grant key epoch s i m) = subst (λ l. In l (Entry.Grant key epoch s i m)) (sym a) (in_middle front behind (Entry.Grant key epoch s i m)) in
           let here : In es (Entry.Grant key epoch t j p) = subst (λ l. In l (Entry.Grant key epoch t j p)) (sym b) (in_middle other rest (Entry.Grant key epoch t j p)) in
@@ -31,10 +38,6 @@ fitting_epochs n es fits =
             place = one_place n key None front behind other rest epoch s i m t j p (subst (λ l. FitsFrom n key None l) a (fits key)) (sym a ∙ b);
           };
     }
-  where
-    granted_case : (key : Key) (epoch : ℕ) → WasGranted key None es epoch → IsGranted es key epoch
-    granted_case key epoch (inl g) = record { switch = g.0; inc = g.1.0; nonce = g.1.1.0; there = g.1.1.1 }
-    granted_case key epoch (inr f) = let no : None ≡ Some f.0 = f.1.0 in cc
 
 pub books_fit : (app : Application) (setup : Setup) (es : List Event) → BooksFit app.cell_count (world_after app (opened app.cell_count setup) es)
 books_fit app setup es =

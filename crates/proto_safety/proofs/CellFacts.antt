@@ -16,10 +16,11 @@ use Rattle.proto_model.specs.Stands.{entries_of}
 use Rattle.proto_model.specs.Committed.{number_in, greater, closing_of}
 use Rattle.proto_model.specs.Slot.{Slot, Lease, Idle, Asking, Held, Lapsed, epoch_of, is_young, lapsed_lease, lapsed_slot}
 use Rattle.proto_model.specs.SwitchState.{slot_at, lapsed, Switch}
-use Rattle.proto_model.specs.World.{World, SwitchNode, Fed}
+use Rattle.proto_model.specs.World.{World, SwitchNode}
+use Rattle.rp_base.specs.declared.legality.Fed.{Fed}
 use Rattle.proto_safety.specs.Books.{In, BooksHold, committed_of}
 use Rattle.proto_safety.specs.CellLaws.{copies_of}
-use Rattle.proto_safety.specs.Flows.{Flow, FitsFrom, AckedIn, flow_of}
+use Rattle.proto_safety.specs.Flows.{FlowRecord, FitsFrom, AckedIn, flow_of}
 use Rattle.proto_safety.specs.Origins.{Origin}
 use Rattle.proto_safety.proofs.FedMarks.{FedOnce}
 use Rattle.proto_safety.proofs.FramesCarry.{FramesCarry}
@@ -37,7 +38,7 @@ use Rattle.proto_safety.proofs.Induction.{Comes}
 
 -- the flow is granted up to this epoch, or further
 pub record GrantedTo (n : ℕ) (es : List Entry) (key : Key) (e : ℕ) : Type 0 where
-  pub flow : Flow
+  pub flow : FlowRecord
   pub flow_is : flow_of n key es ≡ Some flow
   pub reached : e ≤ flow.epoch
 
@@ -56,7 +57,7 @@ pub record SentPut (frames : List Msg) (key : Key) (e k : ℕ) (delta : Delta) :
 
 -- a Grant that is taken in time: the committed flow is as it says, and nothing was done in its epoch
 pub record GrantSaid (app : Application) (w : World) (n inc : ℕ) (key : Key) (epoch : ℕ) (cells : List ℕ) : Type 0 where
-  pub flow : Flow
+  pub flow : FlowRecord
   pub flow_is : flow_of app.cell_count key (committed_of w.replicas) ≡ Some flow
   pub epoch_is : flow.epoch ≡ epoch
   pub last_is : flow.last ≡ 0
@@ -80,7 +81,7 @@ pub record CellFacts (app : Application) (w : World) : Type 0 where
   pub strict : AllAt (λ n (node : SwitchNode). node.state.terms.mode ≡ Mode.Strict) w.switches
   -- no later epoch than a live slot's is committed
   pub live :
-      (n nonce e expiry : ℕ) (key : Key) (node : SwitchNode) (slot : Slot) (f : Flow) → slice_get w.switches n ≡ Some node → node.runs ≡ true → slot_at node.state key ≡ Some slot →
+      (n nonce e expiry : ℕ) (key : Key) (node : SwitchNode) (slot : Slot) (f : FlowRecord) → slice_get w.switches n ≡ Some node → node.runs ≡ true → slot_at node.state key ≡ Some slot →
       slot.lease ≡ Held nonce e expiry → node.clock < expiry → flow_of app.cell_count key (committed_of w.replicas) ≡ Some f → f.epoch ≤ e
   pub grants :
       (n nonce first epoch : ℕ) (from to : Node) (key : Key) (cells : List ℕ) (load : Option Carried) (node : SwitchNode) (slot : Slot) → slice_get w.switches n ≡ Some node → node.runs ≡ true →
@@ -110,7 +111,7 @@ pub closing_entries : (key : Key) (e : ℕ) (book : List Booked) → closing_of 
 closing_entries key e book = closing_from key e None book
 
 -- each number of the flow's epoch is at most its last
-pub number_low : (n : ℕ) (key : Key) (book : List Booked) (f : Flow) (x : Entry) (m : ℕ) → FitsFrom n key None (entries_of book) → flow_of n key (entries_of book) ≡ Some f → In (entries_of book) x → number_in key f.epoch x ≡ Some m → m ≤ f.last
+pub number_low : (n : ℕ) (key : Key) (book : List Booked) (f : FlowRecord) (x : Entry) (m : ℕ) → FitsFrom n key None (entries_of book) → flow_of n key (entries_of book) ≡ Some f → In (entries_of book) x → number_in key f.epoch x ≡ Some m → m ≤ f.last
 number_low n key book f x m fits flow i is =
     let r : Reaches (closing_of key f.epoch book) m = closing_reaches key f.epoch m book x i is in
     let l : closing_of key f.epoch book ≡ Some f.last = closing_entries key f.epoch book ∙ (closes n key (entries_of book) fits).last f flow in

@@ -11,7 +11,8 @@ use Rattle.proto_model.specs.Table.{Key, same_key}
 use Rattle.proto_model.specs.Feeds.{packet_at}
 use Rattle.proto_model.specs.Committed.{is_in, is_closed}
 use Rattle.proto_model.specs.SwitchState.{Switch}
-use Rattle.proto_model.specs.World.{Fed, Journaled}
+use Rattle.proto_model.specs.World.{Journaled}
+use Rattle.rp_base.specs.declared.legality.Fed.{Fed}
 use Rattle.proto_safety.specs.Books.{In}
 use Rattle.proto_safety.proofs.Tables.{same_key-refl}
 use Rattle.proto_safety.proofs.FlowAlarm.{in_filter, to_filter, in_append}

@@ -22,7 +22,7 @@ use Rattle.proto_model.specs.SwitchState.{Copy, slot_at}
 use Rattle.proto_model.specs.World.{World, SwitchNode, ReplicaNode, Journaled, running_switches, running_replicas}
 use Rattle.proto_model.specs.WorldStep.{config_msg}
 use Rattle.proto_safety.specs.Books.{In, Runs, committed_of}
-use Rattle.proto_safety.specs.Flows.{Flow, FitsFrom, GrantedIn, AckedIn, Reply, ToSwitch, flow_step, flow_from, flow_of}
+use Rattle.proto_safety.specs.Flows.{FlowRecord, FitsFrom, GrantedIn, AckedIn, Reply, ToSwitch, flow_step, flow_from, flow_of}
 use Rattle.proto_safety.specs.LeaseLaws.{HasEpoch, SlotAt}
 use Rattle.proto_safety.specs.Origins.{Origin, PutSent, SnapSent, ChunkSent}
 use Rattle.proto_safety.specs.CellLaws.{Rests, SlotRests, copies_of}
@@ -47,19 +47,19 @@ use Rattle.proto_safety.proofs.SwitchSends.{IsRequest}
 use Rattle.proto_safety.proofs.SwitchTable.{msg}
 use Rattle.proto_safety.proofs.Tables.{same_key-refl, same_key-true}
 use Rattle.proto_safety.proofs.WorldOrigins.{FrameOrigin, NodeOrigins, from_is_switch}
-use Rattle.proto_safety.proofs.WorldPuts.{PutFrame, is_put, is_snap, Known, InTurn, Awaited}
+use Rattle.proto_safety.proofs.WorldPuts.{NumberFrame, is_put, is_snap, Known, InTurn, Awaited}
 use Rattle.proto_safety.proofs.Induction.{Keeps, KeepsGiven, keeps_all, keeps_both, Comes}
 
 -- ---- a Grant in a book
 
-grant_step : {n : ℕ} {key : Key} {o u : Option Flow} {x : Entry} (k s i m : ℕ) → Stepped n key o x u → x ≡ Entry.Grant key k s i m → (g : Flow) × ((u ≡ Some g) × (k ≤ g.epoch))
+grant_step : {n : ℕ} {key : Key} {o u : Option FlowRecord} {x : Entry} (k s i m : ℕ) → Stepped n key o x u → x ≡ Entry.Grant key k s i m → (g : FlowRecord) × ((u ≡ Some g) × (k ≤ g.epoch))
 grant_step {key = key} k s i m (other ne) is = absurd (both_ways _ ne (rw is (same_key-refl key)))
 grant_step k s i m first is = let e : 1 ≡ k = cc in (_, (refl, omega arith))
 grant_step k s i m (next {f = g}) is = let e : g.epoch + 1 ≡ k = cc in (_, (refl, omega arith))
 grant_step k s i m put is = cc
 grant_step k s i m snap is = cc
 
-granted_from : (n : ℕ) (key : Key) (o : Option Flow) (es : List Entry) (k s i m : ℕ) → FitsFrom n key o es → In es (Entry.Grant key k s i m) → (g : Flow) × ((flow_from n key o es ≡ Some g) × (k ≤ g.epoch))
+granted_from : (n : ℕ) (key : Key) (o : Option FlowRecord) (es : List Entry) (k s i m : ℕ) → FitsFrom n key o es → In es (Entry.Grant key k s i m) → (g : FlowRecord) × ((flow_from n key o es ≡ Some g) × (k ≤ g.epoch))
 granted_from n key o [] k s i m fits j = absurd j
 granted_from n key o (x ∷ xs) k s i m fits (inl is) =
     let a = grant_step k s i m (stepped n key o x fits.0) is in
@@ -78,13 +78,13 @@ entry_to n key es x k fits i h = granted_case (was_granted n key None es x k fit
     granted_case (inr f) = let no : None ≡ Some f.0 = f.1.0 in cc
 
 -- a flow of which no entries come stays
-flow_stays : (n : ℕ) (key : Key) (o : Option Flow) (es : List Entry) → FitsFrom n key o es → ((x : Entry) → In es x → same_key (entry_key x) key ≡ false) → flow_from n key o es ≡ o
+flow_stays : (n : ℕ) (key : Key) (o : Option FlowRecord) (es : List Entry) → FitsFrom n key o es → ((x : Entry) → In es x → same_key (entry_key x) key ≡ false) → flow_from n key o es ≡ o
 flow_stays n key o [] fits none = refl
 flow_stays n key o (x ∷ xs) fits none =
     let same : flow_step n key o x ≡ o = other_step (stepped n key o x fits.0) (none x (inl refl)) in
     subst (λ u. flow_from n key u xs ≡ o) (sym same) (flow_stays n key o xs (subst (λ u. FitsFrom n key u xs) same fits.1) (λ y i. none y (inr i)))
   where
-    other_step : {o u : Option Flow} {x : Entry} → Stepped n key o x u → same_key (entry_key x) key ≡ false → u ≡ o
+    other_step : {o u : Option FlowRecord} {x : Entry} → Stepped n key o x u → same_key (entry_key x) key ≡ false → u ≡ o
     other_step (other ne) h = refl
     other_step first h = absurd (both_ways _ h (same_key-refl key))
     other_step next h = absurd (both_ways _ h (same_key-refl key))
@@ -177,16 +177,16 @@ module _ (app : Application) (w : World) (b : Settled app.cell_count w) (o : Ove
   pub from_switch : (m : Msg) → In w.frames m → IsRequest m.body → (n : ℕ) × (m.from ≡ Node.Switch n)
   from_switch m i r = (switch_of m.from, from_is_switch m.from ((each_in (FrameOrigin w.frames) w.frames m b.0.0.1.1.frames i).from r))
 
-  pub put_frame : (e k : ℕ) (key : Key) (delta : Delta) → SentPut w.frames key e k delta → (n : ℕ) × ((inc : ℕ) × PutFrame w.frames n inc key e k)
+  pub put_frame : (e k : ℕ) (key : Key) (delta : Delta) → SentPut w.frames key e k delta → (n : ℕ) × ((inc : ℕ) × NumberFrame w.frames n inc key e k)
   put_frame e k key delta q =
       let n = from_switch q.msg q.there (rw q.body_is tt) in
       (n.0, (q.inc, record { msg = q.msg; there = q.there; from_is = n.1; number_in = is_put q.msg q.inc e k key delta q.load q.body_is }))
 
   -- a round that became an entry was sent with its number
-  snap_frame : (e k : ℕ) (key : Key) (cells : List ℕ) → SnapSent w.frames key e k cells → (n : ℕ) × ((inc : ℕ) × PutFrame w.frames n inc key e k)
+  snap_frame : (e k : ℕ) (key : Key) (cells : List ℕ) → SnapSent w.frames key e k cells → (n : ℕ) × ((inc : ℕ) × NumberFrame w.frames n inc key e k)
   snap_frame e k key cells q = parts_case q.parts q.some q.sent
     where
-      parts_case : (parts : List (List ℕ)) → 1 ≤ length parts → ((i : ℕ) (part : List ℕ) → slice_get parts i ≡ Some part → ChunkSent w.frames key e k i (length q.parts) part) → (n : ℕ) × ((inc : ℕ) × PutFrame w.frames n inc key e k)
+      parts_case : (parts : List (List ℕ)) → 1 ≤ length parts → ((i : ℕ) (part : List ℕ) → slice_get parts i ≡ Some part → ChunkSent w.frames key e k i (length q.parts) part) → (n : ℕ) × ((inc : ℕ) × NumberFrame w.frames n inc key e k)
       parts_case [] some sent = absurd (omega (arith, some))
       parts_case (x ∷ xs) some sent =
           let c = sent 0 x refl in
@@ -208,7 +208,7 @@ module _ (app : Application) (w : World) (b : Settled app.cell_count w) (o : Ove
   entry_origin x i = let r = known.runner x i in each_at (NodeOrigins w.frames) w.replicas r.0 r.1 b.0.0.1.1.books r.2 x r.4
 
   -- an epoch past a live slot's, or past that of a Grant that is taken in time, isn't committed
-  pub live_epoch : (n nonce e expiry : ℕ) (key : Key) (node : SwitchNode) (slot : Slot) (f : Flow) → slice_get w.switches n ≡ Some node → node.runs ≡ true → slot_at node.state key ≡ Some slot → slot.lease ≡ Held nonce e expiry → node.clock < expiry →
+  pub live_epoch : (n nonce e expiry : ℕ) (key : Key) (node : SwitchNode) (slot : Slot) (f : FlowRecord) → slice_get w.switches n ≡ Some node → node.runs ≡ true → slot_at node.state key ≡ Some slot → slot.lease ≡ Held nonce e expiry → node.clock < expiry →
       flow_of app.cell_count key es ≡ Some f → f.epoch ≤ e
   live_epoch n nonce e expiry key node slot f at up found is live flow =
       elim (cases_lt e f.epoch) [
@@ -220,7 +220,7 @@ module _ (app : Application) (w : World) (b : Settled app.cell_count w) (o : Ove
         | inr le ↦ le
       ]
 
-  asking_epoch : (n nonce since e : ℕ) (key : Key) (node : SwitchNode) (slot : Slot) (f : Flow) → slice_get w.switches n ≡ Some node → node.runs ≡ true → slot_at node.state key ≡ Some slot → slot.lease ≡ Asking nonce since → is_young node.state.terms.t_switch since node.clock ≡ true →
+  asking_epoch : (n nonce since e : ℕ) (key : Key) (node : SwitchNode) (slot : Slot) (f : FlowRecord) → slice_get w.switches n ≡ Some node → node.runs ≡ true → slot_at node.state key ≡ Some slot → slot.lease ≡ Asking nonce since → is_young node.state.terms.t_switch since node.clock ≡ true →
       In es (Entry.Grant key e n node.state.inc nonce) → flow_of app.cell_count key es ≡ Some f → f.epoch ≤ e
   asking_epoch n nonce since e key node slot f at up found is young own flow =
       elim (cases_lt e f.epoch) [
@@ -258,7 +258,7 @@ module _ (app : Application) (w : World) (b : Settled app.cell_count w) (o : Ove
         record { n = n; node = node; slot = slot; nonce = nonce; first = since; r = r.0; replica = r.1; at = at; found = found; asking = is; here = r.2; up = r.3; granted = r.4 }
 
     -- no number of the epoch was sent
-    pub no_numbers : (m inc k : ℕ) → PutFrame w.frames m inc key epoch k → ⊥
+    pub no_numbers : (m inc k : ℕ) → NumberFrame w.frames m inc key epoch k → ⊥
     no_numbers m inc k p = (b.1.numbers m inc epoch k key p).awaited awaited
 
     no_puts : (k : ℕ) (delta : Delta) → SentPut w.frames key epoch k delta → ⊥
@@ -288,7 +288,7 @@ module _ (app : Application) (w : World) (b : Settled app.cell_count w) (o : Ove
         absurd (no_puts number delta (record { msg = p.msg; there = p.there; inc = p.inc; load = p.load; body_is = p.body_is ∙ same_put p.inc e number k delta p.load h.0 h.1 }))
     only_grant (Entry.Snap k e round values) i h =
         let p = snap_frame e round k values (entry_origin (Entry.Snap k e round values) i) in
-        absurd (no_numbers p.0 p.1.0 round (subst (λ (x : Key). PutFrame w.frames p.0 p.1.0 x epoch round) h.0 (subst (λ x. PutFrame w.frames p.0 p.1.0 k x round) h.1 p.1.1)))
+        absurd (no_numbers p.0 p.1.0 round (subst (λ (x : Key). NumberFrame w.frames p.0 p.1.0 x epoch round) h.0 (subst (λ x. NumberFrame w.frames p.0 p.1.0 k x round) h.1 p.1.1)))
 
     last_is : granted.flow.last ≡ 0
     last_is =
@@ -299,7 +299,7 @@ module _ (app : Application) (w : World) (b : Settled app.cell_count w) (o : Ove
         subst (λ y. IsNumber y granted.flow.last) g.1.1.1 v
 
     -- behind the book that the Grant came from, the flow has no entries
-    abbrev sent_flow : Flow
+    abbrev sent_flow : FlowRecord
     sent_flow = record { epoch = epoch; switch = n; inc = node.state.inc; nonce = nonce; last = told.last; cells = cells }
 
     rest_fits : FitsFrom app.cell_count key (Some sent_flow) told.prefix.rest
@@ -319,7 +319,7 @@ module _ (app : Application) (w : World) (b : Settled app.cell_count w) (o : Ove
         let low : epoch ≤ e = entry_from app.cell_count key (Some sent_flow) told.prefix.rest x e rest_fits i h in
         let t : GrantedTo app.cell_count es key e = entry_to app.cell_count key es x e (known.committed_fits key) (behind x i) h in
         let flow : t.flow ≡ granted.flow = cc (sym t.flow_is ∙ granted.flow_is) in
-        let here : e ≡ epoch = omega (arith, t.reached, same_epoch, ap (λ (f : Flow). f.epoch) flow) in
+        let here : e ≡ epoch = omega (arith, t.reached, same_epoch, ap (λ (f : FlowRecord). f.epoch) flow) in
         let g = only_grant x (behind x i) (subst (λ y. HasEpoch key y x) here h) in
         let above : epoch + 1 ≤ epoch = grant_above app.cell_count key (Some sent_flow) told.prefix.rest epoch g.0 g.1.0 g.1.1.0 rest_fits (subst (λ y. In told.prefix.rest y) g.1.1.1 i) in
         absurd (omega arith)
@@ -346,7 +346,7 @@ module _ (app : Application) (w : World) (b : Settled app.cell_count w) (o : Ove
           flow_is = granted.flow_is;
           epoch_is = same_epoch;
           last_is = last_is;
-          cells_are = let same : granted.flow ≡ sent_flow = cc (sym granted.flow_is ∙ flow_now) in ap (λ (f : Flow). f.cells) same;
+          cells_are = let same : granted.flow ≡ sent_flow = cc (sym granted.flow_is ∙ flow_now) in ap (λ (f : FlowRecord). f.cells) same;
           no_items = no_items;
           no_puts = no_puts;
           owner = record { nonce = nonce; there = owner };

@@ -8,9 +8,10 @@ use Rattle.proto_model.specs.Table.{Key}
 use Rattle.proto_model.specs.Feeds.{Each}
 use Rattle.proto_model.specs.Slot.{Slot, epoch_of}
 use Rattle.proto_model.specs.SwitchState.{slot_at}
-use Rattle.proto_model.specs.World.{SwitchNode, Fed, Journaled}
+use Rattle.proto_model.specs.World.{SwitchNode, Journaled}
+use Rattle.rp_base.specs.declared.legality.Fed.{Fed}
 use Rattle.proto_safety.specs.Books.{In, IsPrefix}
-use Rattle.proto_safety.specs.Flows.{Flow, FitsFrom, flow_step, flow_of}
+use Rattle.proto_safety.specs.Flows.{FlowRecord, FitsFrom, flow_step, flow_of}
 use Rattle.proto_safety.specs.Origins.{Origin, PutSent}
 use Rattle.proto_safety.proofs.BookEpochs.{fits_parts, in_middle, flow_later_from}
 use Rattle.proto_safety.proofs.CellFacts.{GrantedTo, SentPut}
@@ -23,7 +24,7 @@ use Rattle.proto_safety.proofs.SerialFronts.{front_stays}
 use Rattle.proto_safety.proofs.SwitchCells.{SwitchStands}
 use Rattle.proto_safety.proofs.SwitchNodes.{AllAt}
 
-pub flow_later : (n : ℕ) (key : Key) (es more : List Entry) (f : Flow) → FitsFrom n key None (es ++ more) → flow_of n key es ≡ Some f → (g : Flow) × ((flow_of n key (es ++ more) ≡ Some g) × (f.epoch ≤ g.epoch))
+pub flow_later : (n : ℕ) (key : Key) (es more : List Entry) (f : FlowRecord) → FitsFrom n key None (es ++ more) → flow_of n key es ≡ Some f → (g : FlowRecord) × ((flow_of n key (es ++ more) ≡ Some g) × (f.epoch ≤ g.epoch))
 flow_later n key es more f fits flow =
     let r = flow_later_from n key (flow_of n key es) f more (fits_parts n key None es more fits).1 flow in
     (r.0, (fold-append (flow_step n key) None es more ∙ r.1.0, r.1.1))
@@ -48,7 +49,7 @@ module _ (app : Application) (feeds : List Fed) (items : List Journaled) (frames
         rise = k.rise;
       }
 
-  put_there : (key : Key) (done rest : List Entry) (x : Entry) (f : Flow) (delta : Delta) → (es ++ done) ++ rest ≡ later → In later x → x ≡ Entry.Put key f.epoch (f.last + 1) delta →
+  put_there : (key : Key) (done rest : List Entry) (x : Entry) (f : FlowRecord) (delta : Delta) → (es ++ done) ++ rest ≡ later → In later x → x ≡ Entry.Put key f.epoch (f.last + 1) delta →
       PutIs app feeds (front_in key (es ++ done) items f.epoch) (journal_in key items f.epoch) (f.last + 1) delta
   put_there key done rest x f delta is i e =
       let o : PutSent frames key f.epoch (f.last + 1) delta = subst (λ y. Origin frames y) e (entries x i) in

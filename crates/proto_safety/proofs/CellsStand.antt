@@ -18,7 +18,9 @@ use Rattle.proto_model.specs.Legal.{StandsIn}
 use Rattle.proto_model.specs.Stands.{entries_of}
 use Rattle.proto_model.specs.Slot.{Slot, Asking}
 use Rattle.proto_model.specs.SwitchState.{Copy, is_of}
-use Rattle.proto_model.specs.World.{World, Setup, SwitchNode, ReplicaNode, Fed, Journaled, Released, opened}
+use Rattle.proto_model.specs.World.{World, Setup, SwitchNode, ReplicaNode, Journaled, opened}
+use Rattle.rp_base.specs.declared.legality.Fed.{Fed}
+use Rattle.rp_base.specs.declared.legality.Released.{Released}
 use Rattle.proto_model.specs.WorldStep.{world_after}
 use Rattle.proto_safety.specs.Books.{In, Runs, committed_of}
 use Rattle.proto_safety.specs.CellLaws.{CellsStand, CopiesHaveLast, CopiesHaveLastAt, IsDelta, no_item, of_items, ItemAt, MadeAs, LeasedAt, SerialStays, copies_of, serial_before, cells_after}
@@ -189,16 +191,16 @@ module _ (app : Application) (w : World) (l : Laid app w) (o : OverLate w) (s : 
 
 -- ---- every run
 
-module _ (app : Application) (is : IsApplication app) (setup : Setup) (strict : setup.terms.mode ≡ Mode.Strict) (hold : TermsHold setup.terms.t_switch setup.terms.t_store setup.terms.ratio) (some : 1 ≤ setup.terms.t_store) where
+module _ (app : Application) (is : IsApplication app) (setup : Setup) (strict : setup.terms.mode ≡ Mode.Strict) (hold : TermsHold setup.terms.t_switch setup.terms.t_store setup.terms.ratio) where
   pub cells_stand : (events : List Event) → CellsStand app (world_after app (opened app.cell_count setup) events)
   cells_stand events =
       let k =
       known_after app is (λ w. (fs : List First) × Ending fs w) (some_firsts app (Laid app) Ending (firsts_given app (Laid app) (Standing app) Ending (laid_stands app) (ending_kept app))) (λ w l h. ends_leases app w h.0 l h.1) setup events
-      (opened_laid app setup strict, ([], opened_ending app setup hold some)) in
+      (opened_laid app setup strict, ([], opened_ending app setup hold)) in
       cells_now app (world_after app (opened app.cell_count setup) events) k.0.0 k.0.1 k.1.0 k.1.1
       (λ n key node at. each_at (λ (x : SwitchNode). (key : Key) → x.state.terms.mode ≡ Mode.Strict → CopiesHaveLast x key) (world_after app (opened app.cell_count setup) events).switches n node (copies_have_last app setup events) at key (k.1.0.cells.strict n node at))
 
   pub lists_stay : (events more : List Event) → SerialStays app (world_after app (opened app.cell_count setup) events) (world_after app (world_after app (opened app.cell_count setup) events) more)
   lists_stay events more =
       serial_stays app is (λ w. (fs : List First) × Ending fs w) (some_firsts app (Laid app) Ending (firsts_given app (Laid app) (Standing app) Ending (laid_stands app) (ending_kept app))) (λ w l h. ends_leases app w h.0 l h.1) setup events more
-      (opened_laid app setup strict, ([], opened_ending app setup hold some))
+      (opened_laid app setup strict, ([], opened_ending app setup hold))

@@ -12,7 +12,7 @@ use Rattle.proto_data.specs.declared.message.Input.{Input}
 use Rattle.proto_data.specs.declared.message.Carried.{Carried}
 use Rattle.proto_data.specs.declared.terms.Mode.{Mode}
 use Rattle.rp_app.specs.Application.{Application, Delta}
-use Rattle.proto_model.specs.Carrying.{packet_of, carried_output}
+use Rattle.proto_data.specs.Carrying.{packet_of, carried_output}
 use Rattle.proto_model.specs.Table.{Key, same_key}
 use Rattle.proto_model.specs.Effects.{added, made_output}
 use Rattle.proto_model.specs.Feeds.{Each, packet_at}
@@ -20,11 +20,12 @@ use Rattle.proto_model.specs.Committed.{committed_book, is_closed}
 use Rattle.proto_model.specs.Slot.{Slot, Asking, Held, epoch_of}
 use Rattle.proto_model.specs.SwitchState.{Switch, SwitchDid, Copy, Item, slot_at, lapsed, has_copies, head_node}
 use Rattle.proto_model.specs.SwitchRow.{SwitchRow, Direct, Mirrored, Late, switch_row, asked_mark}
-use Rattle.proto_model.specs.SwitchActs.{perform, item_of}
+use Rattle.proto_model.specs.SwitchOutcomes.{perform, item_of}
 use Rattle.proto_model.specs.SwitchRows.{switch_step}
-use Rattle.proto_model.specs.World.{World, SwitchNode, Fed, Journaled}
+use Rattle.proto_model.specs.World.{World, SwitchNode, Journaled}
+use Rattle.rp_base.specs.declared.legality.Fed.{Fed}
 use Rattle.proto_safety.specs.Books.{In, committed_of}
-use Rattle.proto_safety.specs.Flows.{Flow, AckedIn, flow_of}
+use Rattle.proto_safety.specs.Flows.{FlowRecord, AckedIn, flow_of}
 use Rattle.proto_safety.specs.LeaseLaws.{HasEpoch}
 use Rattle.proto_safety.specs.Origins.{Origin, SnapSent, ChunkSent}
 use Rattle.proto_safety.specs.SwitchSent.{SentNow, PutsNow, SaysNow}
@@ -48,7 +49,7 @@ use Rattle.proto_safety.proofs.SwitchCells.{row_from, RowFacts, ReadyFacts, Swit
 use Rattle.proto_safety.proofs.SwitchItems.{clean_delta, ItemFacts, own_flow, put_kept, direct_stands, mirrored_stands, elsewhere_stands}
 use Rattle.proto_safety.proofs.SwitchNodes.{AllAt}
 use Rattle.proto_safety.proofs.SwitchSays.{Tidy, step_says, tidy_lapsed}
-use Rattle.proto_safety.proofs.SwitchTable.{Acts, Ready, Timely, msg, fed, at_grant, at_grant_again, direct, mirrored, snapped, late, row_acts, late_item}
+use Rattle.proto_safety.proofs.SwitchTable.{RowTaken, Ready, Timely, msg, fed, at_grant, at_grant_again, direct, mirrored, snapped, late, row_taken, late_item}
 use Rattle.proto_safety.proofs.Tables.{same_key-true, same_some}
 use Rattle.proto_safety.proofs.Induction.{Comes}
 
@@ -141,7 +142,7 @@ module _ (app : Application) (w : World) (feeds : List Fed) (n : ℕ) (node : Sw
     pub reached : (k : ℕ) (delta : Delta) → SentPut w.frames key epoch k delta → k ≤ slot.last
 
   -- an entry of the flow's epoch has a number that a Put reached
-  low_entry : (key : Key) (f : Flow) (last : ℕ) → flow_of app.cell_count key es ≡ Some f → ((k : ℕ) (delta : Delta) → SentPut w.frames key f.epoch k delta → k ≤ last) → f.last ≤ last
+  low_entry : (key : Key) (f : FlowRecord) (last : ℕ) → flow_of app.cell_count key es ≡ Some f → ((k : ℕ) (delta : Delta) → SentPut w.frames key f.epoch k delta → k ≤ last) → f.last ≤ last
   low_entry key f last flow reached =
       let x : Numbered key f.epoch f.last es = last_numbered app.cell_count key es f (facts.fits key) flow in
       entry_case x.entry (facts.entries x.entry x.there) (number_epoch key f.epoch f.last x.entry x.number_is) (number_value key f.epoch f.last x.entry x.number_is)
@@ -234,7 +235,7 @@ module _ (app : Application) (w : World) (feeds : List Fed) (n : ℕ) (node : Sw
       node_case (inr there) = others m x there.0 there.1
 
   -- nothing is processed
-  idle_left : (i : Input) (row : SwitchRow) → Acts app s node.clock i row → input ≡ i → (perform s node.clock row).1.item ≡ None → Each (SentNow (perform s node.clock row).0) (perform s node.clock row).1.sent →
+  idle_left : (i : Input) (row : SwitchRow) → RowTaken app s node.clock i row → input ≡ i → (perform s node.clock row).1.item ≡ None → Each (SentNow (perform s node.clock row).0) (perform s node.clock row).1.sent →
       Left items (perform s node.clock row).0 (perform s node.clock row).1.sent
   idle_left i row a came none says =
       let st : SwitchStands app feeds es items (perform s node.clock row).0 = row_from app feeds es items s node.clock input row_facts before i row a came none in
@@ -279,7 +280,7 @@ module _ (app : Application) (w : World) (feeds : List Fed) (n : ℕ) (node : Sw
           λ q.
               let own : In es (Entry.Grant key e n node.state.inc live.owner.nonce) = subst (λ y. In es (Entry.Grant key y n node.state.inc live.owner.nonce)) (sym live.item.epoch_is ∙ sym q) live.owner.there in
               ne (one_grant app.cell_count key None es e m x.state.inc g.1.nonce n node.state.inc live.owner.nonce (facts.fits key) g.1.there own).switch,
-          omega (arith, g.0.reached, ap (λ (f : Flow). f.epoch) same),
+          omega (arith, g.0.reached, ap (λ (f : FlowRecord). f.epoch) same),
         ))
         (hold.slots m x there)
 
@@ -292,7 +293,7 @@ module _ (app : Application) (w : World) (feeds : List Fed) (n : ℕ) (node : Sw
         (λ same.
         let g = facts.puts_granted e k x delta q in
         let flow : g.flow ≡ live.item.flow = cc (sym g.flow_is ∙ (ap (λ y. flow_of app.cell_count y es) same ∙ live.item.flow_is)) in
-        omega (arith, g.reached, ap (λ (f : Flow). f.epoch) flow))
+        omega (arith, g.reached, ap (λ (f : FlowRecord). f.epoch) flow))
         (hold.puts e k x delta q)
 
   -- ---- every row
@@ -309,13 +310,13 @@ module _ (app : Application) (w : World) (feeds : List Fed) (n : ℕ) (node : Sw
   abbrev pub more_items : ℕ → SwitchDid → List Journaled
   more_items event did = items ++ added (λ (x : Item). record { event = event; item = x; output = made_output did.released did.sent }) did.item
 
-  idle_row : (event : ℕ) (i : Input) (row : SwitchRow) → Acts app s node.clock i row → input ≡ i → (perform s node.clock row).1.item ≡ None → Each (SentNow (perform s node.clock row).0) (perform s node.clock row).1.sent →
+  idle_row : (event : ℕ) (i : Input) (row : SwitchRow) → RowTaken app s node.clock i row → input ≡ i → (perform s node.clock row).1.item ≡ None → Each (SentNow (perform s node.clock row).0) (perform s node.clock row).1.sent →
       Left (more_items event (perform s node.clock row).1) (perform s node.clock row).0 (perform s node.clock row).1.sent
   idle_row event i row a came none says =
       subst (λ o. Left (items ++ added (λ (x : Item). record { event = event; item = x; output = made_output (perform s node.clock row).1.released (perform s node.clock row).1.sent }) o) (perform s node.clock row).0 (perform s node.clock row).1.sent) (sym none)
       (subst (λ l. Left l (perform s node.clock row).0 (perform s node.clock row).1.sent) (sym (append-nil items)) (idle_left i row a came none says))
 
-  row_left : (event : ℕ) (i : Input) (row : SwitchRow) → Acts app s node.clock i row → input ≡ i → Each (SentNow (perform s node.clock row).0) (perform s node.clock row).1.sent →
+  row_left : (event : ℕ) (i : Input) (row : SwitchRow) → RowTaken app s node.clock i row → input ≡ i → Each (SentNow (perform s node.clock row).0) (perform s node.clock row).1.sent →
       Left (more_items event (perform s node.clock row).1) (perform s node.clock row).0 (perform s node.clock row).1.sent
   row_left event i row (direct {key = key} {slot = slot} {epoch = epoch} {p = p} {made = made} r m e clean alone) came says =
       let j : Journaled = record { event = event; item = item_of key epoch p.mark slot.last node.clock made.0; output = made_output made.1 [] } in
@@ -351,4 +352,4 @@ module _ (app : Application) (w : World) (feeds : List Fed) (n : ℕ) (node : Sw
 
   pub step_left : (event : ℕ) → Left (more_items event (switch_step app node.state node.clock input).1) (switch_step app node.state node.clock input).0 (switch_step app node.state node.clock input).1.sent
   step_left event =
-      row_left event input (switch_row app s node.clock input) (row_acts app s node.clock input) refl (step_says app node.state node.clock input (facts.says n node at).tidy)
+      row_left event input (switch_row app s node.clock input) (row_taken app s node.clock input) refl (step_says app node.state node.clock input (facts.says n node at).tidy)

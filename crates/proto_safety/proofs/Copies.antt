@@ -8,7 +8,7 @@ use Rattle.proto_model.specs.Table.{Key, Table, same_key, get, put, map_values}
 use Rattle.proto_model.specs.Slot.{Slot, Lease, Idle, Asking, Held, Lapsed, lapsed_slot, extended, lapsed_lease}
 use Rattle.proto_model.specs.SwitchState.{Switch, Copy, is_of, is_covered, lapsed}
 use Rattle.proto_model.specs.SwitchRow.{SwitchRow, NewAsk, AskAgain, Drops, Direct, Mirrored, Granted, Late, Acked, RoundDone, Denied, Busied, Resends, switch_row}
-use Rattle.proto_model.specs.SwitchActs.{perform, acked_lease}
+use Rattle.proto_model.specs.SwitchOutcomes.{perform, acked_lease}
 use Rattle.proto_model.specs.SwitchRows.{switch_step}
 use Rattle.proto_model.specs.SwitchAlarm.{alarm, Walk, due_copies, other_copies, is_due, walk_order}
 use Rattle.proto_safety.proofs.AlarmInduction.{WalkKeeps, walk_kept}

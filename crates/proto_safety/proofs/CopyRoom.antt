@@ -9,7 +9,7 @@ use Rattle.proto_data.specs.declared.terms.Mode.{Mode}
 use Rattle.rp_app.specs.Application.{Application}
 use Rattle.proto_model.specs.Table.{Key}
 use Rattle.proto_model.specs.Slot.{Slot, Lease, Round, Idle, Asking, Held, Lapsed}
-use Rattle.proto_model.specs.SwitchActs.{perform}
+use Rattle.proto_model.specs.SwitchOutcomes.{perform}
 use Rattle.proto_model.specs.SwitchAlarm.{Walk, is_due, due_copies, other_copies, ends_soon, snap_slot, strict_slot, held_slot, walked_slot, walked_key, walked_more, walked_slots, walk_order, resent, alarm}
 use Rattle.proto_model.specs.SwitchRow.{SwitchRow, NewAsk, Mirrored, Late, Acked, Denied, Resends, switch_row}
 use Rattle.proto_model.specs.SwitchRows.{switch_step}
@@ -19,7 +19,7 @@ use Rattle.proto_model.specs.WorldStep.{world_after}
 use Rattle.proto_safety.proofs.Induction.{Keeps, run_kept}
 use Rattle.proto_safety.proofs.Lists.{length_map}
 use Rattle.proto_safety.proofs.SwitchNodes.{AllAt, all_set, all_changed, all_advanced, all_opened}
-use Rattle.proto_safety.proofs.SwitchTable.{Acts, mirrored, row_acts}
+use Rattle.proto_safety.proofs.SwitchTable.{RowTaken, mirrored, row_taken}
 
 filter_few : {A : Type 0} (p : A → Bool) (xs : List A) → length (filter p xs) ≤ length xs
 filter_few p xs = omega (arith, length-filter p xs, count_by-le-length p xs)
@@ -93,7 +93,7 @@ few_alarm s now h =
 
 -- ---- a step
 
-few_row : (app : Application) (s : Switch) (now : ℕ) {input : Input} (row : SwitchRow) → Acts app s now input row → length s.copies ≤ 1024 → length (perform s now row).0.copies ≤ 1024
+few_row : (app : Application) (s : Switch) (now : ℕ) {input : Input} (row : SwitchRow) → RowTaken app s now input row → length s.copies ≤ 1024 → length (perform s now row).0.copies ≤ 1024
 few_row app s now (NewAsk key slot packet) f h = omega (arith, h, filter_few (λ c. not (is_of key c)) s.copies)
 few_row app s now (Mirrored key slot epoch mark delta out) (mirrored r m made room dirty) h =
     omega (arith, leb-false 1024 (length s.copies) room, length-append s.copies (record { key = key; number = slot.last + 1; delta = delta; first = now; sent = now } ∷ []))
@@ -104,7 +104,7 @@ few_row app s now Resends f h = few_alarm s now h
 few_row app s now _ f h = h
 
 few_step : (app : Application) (s : Switch) (now : ℕ) (input : Input) → length s.copies ≤ 1024 → length (switch_step app s now input).0.copies ≤ 1024
-few_step app s now input h = few_row app (lapsed now s) now (switch_row app (lapsed now s) now input) (row_acts app (lapsed now s) now input) h
+few_step app s now input h = few_row app (lapsed now s) now (switch_row app (lapsed now s) now input) (row_taken app (lapsed now s) now input) h
 
 -- ---- every run
 

@@ -9,7 +9,7 @@ use Rattle.proto_model.specs.ReplicaRows.{entry_key}
 use Rattle.proto_model.specs.Stands.{entries_of}
 use Rattle.proto_model.specs.Committed.{number_in, greater, closing_of}
 use Rattle.proto_safety.specs.Books.{In}
-use Rattle.proto_safety.specs.Flows.{Flow, FitsFrom, flow_step}
+use Rattle.proto_safety.specs.Flows.{FlowRecord, FitsFrom, flow_step}
 use Rattle.proto_safety.specs.LeaseLaws.{HasEpoch}
 use Rattle.proto_safety.proofs.Tables.{same_key-true, same_key-refl}
 use Rattle.proto_safety.proofs.FlowBooks.{Numbered, numbered_grant, numbered_put, numbered_snap}
@@ -49,18 +49,18 @@ number_key key epoch m (Entry.Snap k e round values) h = rw (number_epoch key ep
 -- ---- all numbers up to one that stands
 
 -- the number stands in these entries, or the flow had reached it
-abbrev WasNumbered : Key → Option Flow → List Entry → ℕ → ℕ → Type 0
-WasNumbered key o es k j = Numbered key k j es ⊎ ((f : Flow) × ((o ≡ Some f) × ((f.epoch ≡ k) × (j ≤ f.last))))
+abbrev WasNumbered : Key → Option FlowRecord → List Entry → ℕ → ℕ → Type 0
+WasNumbered key o es k j = Numbered key k j es ⊎ ((f : FlowRecord) × ((o ≡ Some f) × ((f.epoch ≡ k) × (j ≤ f.last))))
 
-itself : (key : Key) (o : Option Flow) (e : Entry) (xs : List Entry) (k j : ℕ) → number_in key k e ≡ Some j → WasNumbered key o (e ∷ xs) k j
+itself : (key : Key) (o : Option FlowRecord) (e : Entry) (xs : List Entry) (k j : ℕ) → number_in key k e ≡ Some j → WasNumbered key o (e ∷ xs) k j
 itself key o e xs k j is = inl (record { entry = e; there = inl refl; number_is = is })
 
 -- a number up to the one that comes next
-up_to_next : (key : Key) (f : Flow) (e : Entry) (xs : List Entry) (k j : ℕ) → f.epoch ≡ k → number_in key k e ≡ Some (f.last + 1) → j ≤ f.last + 1 → (b : Bool) → (j == f.last + 1) ≡ b → WasNumbered key (Some f) (e ∷ xs) k j
+up_to_next : (key : Key) (f : FlowRecord) (e : Entry) (xs : List Entry) (k j : ℕ) → f.epoch ≡ k → number_in key k e ≡ Some (f.last + 1) → j ≤ f.last + 1 → (b : Bool) → (j == f.last + 1) ≡ b → WasNumbered key (Some f) (e ∷ xs) k j
 up_to_next key f e xs k j of is le true t = let same : j ≡ f.last + 1 = eqb-true j (f.last + 1) t in itself key (Some f) e xs k j (rw same is)
 up_to_next key f e xs k j of is le false t = let ne : (j ≡ f.last + 1 → ⊥) = λ q. both_ways _ t (eq-eqb j (f.last + 1) q) in inr (f, (refl, (of, omega arith)))
 
-head_numbered : {n : ℕ} {key : Key} {o u : Option Flow} {e : Entry} (xs : List Entry) (k m j : ℕ) → Stepped n key o e u → number_in key k e ≡ Some m → j ≤ m → WasNumbered key o (e ∷ xs) k j
+head_numbered : {n : ℕ} {key : Key} {o u : Option FlowRecord} {e : Entry} (xs : List Entry) (k m j : ℕ) → Stepped n key o e u → number_in key k e ≡ Some m → j ≤ m → WasNumbered key o (e ∷ xs) k j
 head_numbered {key = key} {e = e} xs k m j (other ne) is le = absurd (both_ways _ ne (number_key key k m e is))
 head_numbered {key = key} {o = o} {e = e} xs k m j (first {switch = s} {inc = i} {nonce = c}) is le =
     let zero : m ≡ 0 = number_value key k m (Entry.Grant key 1 s i c) is in let same : m ≡ j = omega arith in itself key o e xs k j (rw (← same) is)
@@ -75,7 +75,7 @@ head_numbered {key = key} {e = e} xs k m j (snap {f = f} {values = v}) is le =
     let of = number_epoch key k m (Entry.Snap key f.epoch (f.last + 1) v) is in
     up_to_next key f (Entry.Snap key f.epoch (f.last + 1) v) xs k j of.1 (is ∙ ap Some value) (omega arith) (j == f.last + 1) refl
 
-step_numbered : {n : ℕ} {key : Key} {o u : Option Flow} {e : Entry} (xs : List Entry) (k j : ℕ) (f : Flow) → Stepped n key o e u → u ≡ Some f → f.epoch ≡ k → j ≤ f.last → WasNumbered key o (e ∷ xs) k j
+step_numbered : {n : ℕ} {key : Key} {o u : Option FlowRecord} {e : Entry} (xs : List Entry) (k j : ℕ) (f : FlowRecord) → Stepped n key o e u → u ≡ Some f → f.epoch ≡ k → j ≤ f.last → WasNumbered key o (e ∷ xs) k j
 step_numbered xs k j f (other ne) is of le = inr (f, (is, (of, le)))
 step_numbered {key = key} {o = o} {e = e} xs k j f (first {switch = s} {inc = i} {nonce = c}) is of le =
     let epoch : 1 ≡ f.epoch = cc in let last : 0 ≡ f.last = cc in let zero : 0 ≡ j = omega arith in
@@ -90,7 +90,7 @@ step_numbered {key = key} {e = e} xs k j f (snap {f = g} {values = v}) is of le 
     let epoch : g.epoch ≡ f.epoch = cc in let last : g.last + 1 ≡ f.last = cc in
     up_to_next key g e xs k j (epoch ∙ of) (rw (← of, ← epoch) (numbered_snap key key g.epoch (g.last + 1) v (same_key-refl key))) (omega arith) (j == g.last + 1) refl
 
-numbers_from : (n : ℕ) (key : Key) (o : Option Flow) (es : List Entry) (e : Entry) (k m j : ℕ) → FitsFrom n key o es → In es e → number_in key k e ≡ Some m → j ≤ m → WasNumbered key o es k j
+numbers_from : (n : ℕ) (key : Key) (o : Option FlowRecord) (es : List Entry) (e : Entry) (k m j : ℕ) → FitsFrom n key o es → In es e → number_in key k e ≡ Some m → j ≤ m → WasNumbered key o es k j
 numbers_from n key o [] e k m j fits i is le = absurd i
 numbers_from n key o (x ∷ xs) e k m j fits (inl same) is le = head_numbered xs k m j (stepped n key o x fits.0) (subst (λ y. number_in key k y ≡ Some m) (sym same) is) le
 numbers_from n key o (x ∷ xs) e k m j fits (inr i) is le = later_case (numbers_from n key (flow_step n key o x) xs e k m j fits.1 i is le)

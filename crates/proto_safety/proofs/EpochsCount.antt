@@ -16,7 +16,7 @@ use Rattle.proto_data.specs.declared.message.Msg.{Msg}
 use Rattle.proto_model.specs.Pumping.{Received, linked_run}
 use Rattle.proto_safety.specs.Books.{In, BooksHold, committed_of}
 use Rattle.proto_safety.specs.EpochOrder.{EpochsRise, SerialByEpoch, epoch_count}
-use Rattle.proto_safety.specs.Flows.{Flow, FitsFrom, flow_step}
+use Rattle.proto_safety.specs.Flows.{FlowRecord, FitsFrom, flow_step}
 use Rattle.proto_safety.proofs.BookEpochLaws.{books_fit, committed_fits}
 use Rattle.proto_safety.proofs.BookEpochs.{Stepped, other, first, next, put, snap, stepped}
 use Rattle.proto_safety.proofs.CellsFed.{in_flat_parts}
@@ -32,7 +32,7 @@ use Rattle.proto_safety.proofs.Induction.{keeps_both}
 use Rattle.proto_safety.proofs.LinkedKept.{linked_kept}
 
 -- the epoch that a flow has reached
-abbrev reached : Option Flow → ℕ
+abbrev reached : Option FlowRecord → ℕ
 reached None = 0
 reached (Some f) = f.epoch
 
@@ -40,14 +40,14 @@ reached (Some f) = f.epoch
 abbrev Count : ℕ → List ℕ → Type 0
 Count k es = es ≡ range_with_len (k + 1) (length es)
 
-count_step : {n : ℕ} {key : Key} {o u : Option Flow} {e : Entry} (rest : List ℕ) → Stepped n key o e u → Count (reached u) rest → Count (reached o) (cons_option (epoch_granted key e) rest)
+count_step : {n : ℕ} {key : Key} {o u : Option FlowRecord} {e : Entry} (rest : List ℕ) → Stepped n key o e u → Count (reached u) rest → Count (reached o) (cons_option (epoch_granted key e) rest)
 count_step {key = key} {o = o} {e = e} rest (other ne) h = subst (λ x. Count (reached o) (cons_option x rest)) (sym (no_grant key e ne)) h
 count_step {key = key} rest first h = subst (λ b. Count 0 (cons_option (if b then Some 1 else None) rest)) (sym (same_key-refl key)) (ap (λ l. 1 ∷ l) h)
 count_step {key = key} rest (next {f = f}) h = subst (λ b. Count f.epoch (cons_option (if b then Some (f.epoch + 1) else None) rest)) (sym (same_key-refl key)) (ap (λ l. (f.epoch + 1) ∷ l) h)
 count_step rest put h = h
 count_step rest snap h = h
 
-count_from : (n : ℕ) (key : Key) (o : Option Flow) (es : List Entry) → FitsFrom n key o es → Count (reached o) (epochs_in key es)
+count_from : (n : ℕ) (key : Key) (o : Option FlowRecord) (es : List Entry) → FitsFrom n key o es → Count (reached o) (epochs_in key es)
 count_from n key o [] h = refl
 count_from n key o (e ∷ es) h = count_step (epochs_in key es) (stepped n key o e h.0) (count_from n key (flow_step n key o e) es h.1)
 

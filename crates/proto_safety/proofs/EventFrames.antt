@@ -21,7 +21,7 @@ use Rattle.proto_model.specs.ReplicaRows.{store_step, store_row}
 use Rattle.proto_model.specs.World.{World, Setup, SwitchNode, ReplicaNode, opened, running_switches, running_replicas}
 use Rattle.proto_model.specs.WorldStep.{Act, Refuses, Feeds, Delivers, Passes, Advances, Alarms, Stops, Boots, Detects, Announces, Pumps, act_of, perform_act, node_takes, switch_takes, replica_takes, runs_now, runs_at_replica, announcements, config_msg, next_event, world_step, world_after}
 use Rattle.proto_safety.specs.Books.{In, BooksHold, committed_of}
-use Rattle.proto_safety.specs.Flows.{GrantedNow, SaysRecord, Flow, FitsFrom, ToSwitch, flow_in}
+use Rattle.proto_safety.specs.Flows.{GrantedNow, SaysRecord, FlowRecord, FitsFrom, ToSwitch, flow_in}
 use Rattle.proto_safety.proofs.Acts.{Fits, act_fits}
 use Rattle.proto_safety.proofs.Chains.{each_in}
 use Rattle.proto_safety.proofs.FlowBooks.{book_flow}
@@ -139,11 +139,11 @@ record_says n w switch inc nonce epoch key cells g = record_case (get (committed
         record {
           rec = r;
           found = at;
-          to_owner = ap (λ (f : Flow). Node.Switch f.switch) (sym same);
-          inc_is = ap (λ (f : Flow). f.inc) same;
-          nonce_is = ap (λ (f : Flow). f.nonce) same;
-          epoch_is = ap (λ (f : Flow). f.epoch) same;
-          cells_are = ap (λ (f : Flow). f.cells) same;
+          to_owner = ap (λ (f : FlowRecord). Node.Switch f.switch) (sym same);
+          inc_is = ap (λ (f : FlowRecord). f.inc) same;
+          nonce_is = ap (λ (f : FlowRecord). f.nonce) same;
+          epoch_is = ap (λ (f : FlowRecord). f.epoch) same;
+          cells_are = ap (λ (f : FlowRecord). f.cells) same;
         }
 
 to_owner : (n : ℕ) (w : World) (to : Node) (inc nonce epoch : ℕ) (key : Key) (cells : List ℕ) → ToSwitch (λ s. GrantedNow n (committed_of w.replicas) s inc nonce epoch key cells) to → SaysRecord n w to inc nonce epoch key cells

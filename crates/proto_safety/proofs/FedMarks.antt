@@ -1,10 +1,13 @@
 -- Each mark is fed at most once.
-use Rattle.std.proofs.Common.{◌≡◌, ℕ, ◌+◌, ◌≤◌, ◌≢◌, List, [], ◌∷◌, ◌++◌, arith}
+use Rattle.std.proofs.Common.{◌≡◌, ℕ, ◌+◌, ◌≤◌, ◌≢◌, List, [], ◌∷◌, ◌++◌, arith, Bool, true, false, Some, inl, inr, refl, subst, eqb-true}
+use Rattle.std.specs.Prelude.{◌==◌, if◌then◌else◌}
 use Rattle.rp_base.specs.declared.node.Packet.{Packet}
 use Rattle.rp_base.specs.declared.event.Event.{Event}
 use Rattle.rp_app.specs.Application.{Application}
-use Rattle.proto_model.specs.Feeds.{Each, Pairwise}
-use Rattle.proto_model.specs.World.{World, Setup, Fed, opened}
+use Rattle.proto_model.specs.Feeds.{Each, Pairwise, fed_at}
+use Rattle.proto_safety.specs.Books.{In}
+use Rattle.proto_model.specs.World.{World, Setup, opened}
+use Rattle.rp_base.specs.declared.legality.Fed.{Fed}
 use Rattle.proto_model.specs.WorldStep.{world_after}
 use Rattle.proto_safety.proofs.Lists.{each_append, each_weaker}
 use Rattle.proto_safety.proofs.Induction.{Keeps, run_kept}
@@ -59,3 +62,12 @@ once_kept app =
 
 pub marks_once : (app : Application) (setup : Setup) (es : List Event) → Pairwise OtherMark (world_after app (opened app.cell_count setup) es).history.fed
 marks_once app setup es = (run_kept app FedOnce (once_kept app) es (opened app.cell_count setup) (record { within = tt; differ = tt })).differ
+
+-- what fed_at finds
+pub fed_found : (feeds : List Fed) (m : ℕ) (f : Fed) → fed_at feeds m ≡ Some f → In feeds f × (f.packet.mark ≡ m)
+fed_found [] m f at = cc
+fed_found (g ∷ gs) m f at = found_case (g.packet.mark == m) refl at (fed_found gs m f)
+  where
+    found_case : (b : Bool) → (g.packet.mark == m) ≡ b → (if b then Some g else fed_at gs m) ≡ Some f → (fed_at gs m ≡ Some f → In gs f × (f.packet.mark ≡ m)) → In (g ∷ gs) f × (f.packet.mark ≡ m)
+    found_case true is at rest = let e : g ≡ f = cc in (inl e, subst (λ (x : Fed). x.packet.mark ≡ m) e (eqb-true g.packet.mark m is))
+    found_case false is at rest = let r = rest at in (inr r.0, r.1)

@@ -11,11 +11,11 @@ use Rattle.proto_model.specs.Slot.{Slot, Held, Round, lapsed_slot}
 use Rattle.proto_model.specs.SwitchState.{Switch, Copy, Item, Begun, slot_at, is_of, lapsed}
 use Rattle.proto_model.specs.SwitchAlarm.{Walk, alarm, due_copies, other_copies, is_due, walk_order, empty_put, chunk_sent}
 use Rattle.proto_model.specs.SwitchRow.{switch_row}
-use Rattle.proto_model.specs.SwitchActs.{perform}
+use Rattle.proto_model.specs.SwitchOutcomes.{perform}
 use Rattle.proto_model.specs.SwitchRows.{switch_step}
 use Rattle.proto_safety.specs.Books.{In}
 use Rattle.proto_safety.proofs.AlarmInduction.{WalkKeeps, walk_kept, round_slot, new_round}
-use Rattle.proto_safety.proofs.SwitchTable.{row_acts}
+use Rattle.proto_safety.proofs.SwitchTable.{row_taken}
 use Rattle.proto_safety.proofs.FlowMoves.{View, view, Move, Moves, none, more, lapses, resends, keeps_lease, sends_chunk, begins_round, SameCopy, SameCopies, chunk_slot, same_view, one_more_same, one_more_other, none_of}
 use Rattle.proto_safety.proofs.FlowSteps.{of_flow, row_moves}
 use Rattle.proto_safety.proofs.Tables.{get-put_same, get-put_other, get-map_values, same_key-true}
@@ -219,8 +219,8 @@ behind h (more k m) = more (behind h k) m
 
 acted : (app : Application) (s : Switch) (now : ℕ) (input : Input) (key : Key) →
     Moves app s.inc s.terms now input key (view key s) (of_flow key (perform s now (switch_row app s now input)).1.item) (view key (perform s now (switch_row app s now input)).0)
-acted app s now (Input.Packet p) key = row_moves app s now (Input.Packet p) key (switch_row app s now (Input.Packet p)) (row_acts app s now (Input.Packet p)) (λ e. cc)
-acted app s now (Input.Msg m) key = row_moves app s now (Input.Msg m) key (switch_row app s now (Input.Msg m)) (row_acts app s now (Input.Msg m)) (λ e. cc)
+acted app s now (Input.Packet p) key = row_moves app s now (Input.Packet p) key (switch_row app s now (Input.Packet p)) (row_taken app s now (Input.Packet p)) (λ e. cc)
+acted app s now (Input.Msg m) key = row_moves app s now (Input.Msg m) key (switch_row app s now (Input.Msg m)) (row_taken app s now (Input.Msg m)) (λ e. cc)
 acted app s now Input.Alarm key = alarm_moves app s now key
 
 -- Each step of a switch is moves of each flow, with the items of that flow.

@@ -11,11 +11,11 @@ use Rattle.proto_model.specs.ReplicaRows.{entry_key}
 use Rattle.proto_model.specs.Stands.{Stands, entries_of}
 use Rattle.proto_model.specs.Committed.{number_in}
 use Rattle.proto_safety.specs.Books.{In, IsPrefix}
-use Rattle.proto_safety.specs.Flows.{Flow, flow_in, flow_cells, flow_step, flow_from, flow_of, Follows, FitsFrom}
+use Rattle.proto_safety.specs.Flows.{FlowRecord, flow_in, flow_cells, flow_step, flow_from, flow_of, Follows, FitsFrom}
 use Rattle.proto_safety.proofs.Tables.{get-put_same, get-put_other, same_key-true}
 
 -- what the table says of a flow
-abbrev pub flow_at : Records → Key → Option Flow
+abbrev pub flow_at : Records → Key → Option FlowRecord
 flow_at records key = option_map flow_in (get records key)
 
 -- ---- a record is what its book says
@@ -32,7 +32,7 @@ cells_flow n None = refl
 cells_flow n (Some r) = refl
 
 -- a change of the record of k, seen at key
-changed_flow : (records : Records) (k key : Key) (f : Flow → Flow) (b : Bool) (o : Option Record) → same_key k key ≡ b → get records k ≡ o → (changed : Records) →
+changed_flow : (records : Records) (k key : Key) (f : FlowRecord → FlowRecord) (b : Bool) (o : Option Record) → same_key k key ≡ b → get records k ≡ o → (changed : Records) →
     ((r : Record) → o ≡ Some r → flow_at changed key ≡ (if b then Some (f (flow_in r)) else flow_at records key)) → (o ≡ None → changed ≡ records) →
     flow_at changed key ≡ (if b then option_map f (flow_at records key) else flow_at records key)
 changed_flow records k key f true None is at changed some none =
@@ -47,19 +47,19 @@ changed_flow records k key f false None is at changed some none = rw (none refl)
 changed_flow records k key f false (Some r) is at changed some none = some r refl
 
 put_applied_flow : (records : Records) (k key : Key) (number : ℕ) (delta : Delta) (now : ℕ) (o : Option Record) → get records k ≡ o →
-    flow_at (put_applied records k number delta now o) key ≡ (if same_key k key then option_map (λ (f : Flow). record f { last = number; cells = written f.cells delta }) (flow_at records key) else flow_at records key)
+    flow_at (put_applied records k number delta now o) key ≡ (if same_key k key then option_map (λ (f : FlowRecord). record f { last = number; cells = written f.cells delta }) (flow_at records key) else flow_at records key)
 put_applied_flow records k key number delta now None at =
-    changed_flow records k key (λ (f : Flow). record f { last = number; cells = written f.cells delta }) (same_key k key) None refl at records (λ r e. cc) (λ _. refl)
+    changed_flow records k key (λ (f : FlowRecord). record f { last = number; cells = written f.cells delta }) (same_key k key) None refl at records (λ r e. cc) (λ _. refl)
 put_applied_flow records k key number delta now (Some r) at =
-    changed_flow records k key (λ (f : Flow). record f { last = number; cells = written f.cells delta }) (same_key k key) (Some r) refl at _
+    changed_flow records k key (λ (f : FlowRecord). record f { last = number; cells = written f.cells delta }) (same_key k key) (Some r) refl at _
     (λ x e. let same : r ≡ x = cc in rw (← same) (put_flow records k key (record r { last = number; cells = written r.cells delta; moment = now }))) (λ e. cc)
 
 snap_applied_flow : (records : Records) (k key : Key) (round : ℕ) (values : List ℕ) (now : ℕ) (o : Option Record) → get records k ≡ o →
-    flow_at (snap_applied records k round values now o) key ≡ (if same_key k key then option_map (λ (f : Flow). record f { last = round; cells = values }) (flow_at records key) else flow_at records key)
+    flow_at (snap_applied records k round values now o) key ≡ (if same_key k key then option_map (λ (f : FlowRecord). record f { last = round; cells = values }) (flow_at records key) else flow_at records key)
 snap_applied_flow records k key round values now None at =
-    changed_flow records k key (λ (f : Flow). record f { last = round; cells = values }) (same_key k key) None refl at records (λ r e. cc) (λ _. refl)
+    changed_flow records k key (λ (f : FlowRecord). record f { last = round; cells = values }) (same_key k key) None refl at records (λ r e. cc) (λ _. refl)
 snap_applied_flow records k key round values now (Some r) at =
-    changed_flow records k key (λ (f : Flow). record f { last = round; cells = values }) (same_key k key) (Some r) refl at _
+    changed_flow records k key (λ (f : FlowRecord). record f { last = round; cells = values }) (same_key k key) (Some r) refl at _
     (λ x e. let same : r ≡ x = cc in rw (← same) (put_flow records k key (record r { last = round; cells = values; moment = now }))) (λ e. cc)
 
 grant_flow : (n : ℕ) (records : Records) (k key : Key) (epoch switch inc nonce now : ℕ) (b : Bool) → same_key k key ≡ b →
@@ -87,7 +87,7 @@ stands_flow r book key h = ap (λ rs. flow_at rs key) h.records_along ∙ book_f
 
 -- ---- what a fold says of its entries
 
-pub fits_push : (n : ℕ) (key : Key) (o : Option Flow) (es : List Entry) (e : Entry) → FitsFrom n key o es → (same_key (entry_key e) key ≡ true → Follows (flow_from n key o es) e) → FitsFrom n key o (es ++ e ∷ [])
+pub fits_push : (n : ℕ) (key : Key) (o : Option FlowRecord) (es : List Entry) (e : Entry) → FitsFrom n key o es → (same_key (entry_key e) key ≡ true → Follows (flow_from n key o es) e) → FitsFrom n key o (es ++ e ∷ [])
 fits_push n key o [] e h f = (f, tt)
 fits_push n key o (x ∷ xs) e h f = (h.0, fits_push n key (flow_step n key o x) xs e h.1 f)
 
@@ -105,25 +105,25 @@ in_last [] x = inl refl
 in_last (y ∷ xs) x = inr (in_last xs x)
 
 -- the flow's epoch and owner were granted in the book, or before it
-abbrev OwnedBy : Key → Option Flow → List Entry → Flow → Type 0
-OwnedBy key o es f = In es (Entry.Grant key f.epoch f.switch f.inc f.nonce) ⊎ ((g : Flow) × ((o ≡ Some g) × ((g.epoch ≡ f.epoch) × (g.switch ≡ f.switch) × (g.inc ≡ f.inc) × (g.nonce ≡ f.nonce))))
+abbrev OwnedBy : Key → Option FlowRecord → List Entry → FlowRecord → Type 0
+OwnedBy key o es f = In es (Entry.Grant key f.epoch f.switch f.inc f.nonce) ⊎ ((g : FlowRecord) × ((o ≡ Some g) × ((g.epoch ≡ f.epoch) × (g.switch ≡ f.switch) × (g.inc ≡ f.inc) × (g.nonce ≡ f.nonce))))
 
-owned_later : (key : Key) (o : Option Flow) (e : Entry) (es : List Entry) (f : Flow) (step : Option Flow) → OwnedBy key step es f →
-    ((g : Flow) → step ≡ Some g → (e ≡ Entry.Grant key g.epoch g.switch g.inc g.nonce) ⊎ ((h : Flow) × ((o ≡ Some h) × ((h.epoch ≡ g.epoch) × (h.switch ≡ g.switch) × (h.inc ≡ g.inc) × (h.nonce ≡ g.nonce))))) →
+owned_later : (key : Key) (o : Option FlowRecord) (e : Entry) (es : List Entry) (f : FlowRecord) (step : Option FlowRecord) → OwnedBy key step es f →
+    ((g : FlowRecord) → step ≡ Some g → (e ≡ Entry.Grant key g.epoch g.switch g.inc g.nonce) ⊎ ((h : FlowRecord) × ((o ≡ Some h) × ((h.epoch ≡ g.epoch) × (h.switch ≡ g.switch) × (h.inc ≡ g.inc) × (h.nonce ≡ g.nonce))))) →
     OwnedBy key o (e ∷ es) f
 owned_later key o e es f step (inl i) k = inl (inr i)
 owned_later key o e es f step (inr g) k = owned_case (k g.0 g.1.0)
   where
-    owned_case : (e ≡ Entry.Grant key g.0.epoch g.0.switch g.0.inc g.0.nonce) ⊎ ((h : Flow) × ((o ≡ Some h) × ((h.epoch ≡ g.0.epoch) × (h.switch ≡ g.0.switch) × (h.inc ≡ g.0.inc) × (h.nonce ≡ g.0.nonce)))) → OwnedBy key o (e ∷ es) f
+    owned_case : (e ≡ Entry.Grant key g.0.epoch g.0.switch g.0.inc g.0.nonce) ⊎ ((h : FlowRecord) × ((o ≡ Some h) × ((h.epoch ≡ g.0.epoch) × (h.switch ≡ g.0.switch) × (h.inc ≡ g.0.inc) × (h.nonce ≡ g.0.nonce)))) → OwnedBy key o (e ∷ es) f
     owned_case (inl is) = inl (inl (is ∙ rw (g.1.1.0, g.1.1.1, g.1.1.2, g.1.1.3) refl))
     owned_case (inr h) = inr (h.0, (h.1.0, (h.1.1.0 ∙ g.1.1.0, h.1.1.1 ∙ g.1.1.1, h.1.1.2 ∙ g.1.1.2, h.1.1.3 ∙ g.1.1.3)))
 
-step_owned : (n : ℕ) (key : Key) (o : Option Flow) (e : Entry) (g : Flow) → flow_step n key o e ≡ Some g →
-    (e ≡ Entry.Grant key g.epoch g.switch g.inc g.nonce) ⊎ ((h : Flow) × ((o ≡ Some h) × ((h.epoch ≡ g.epoch) × (h.switch ≡ g.switch) × (h.inc ≡ g.inc) × (h.nonce ≡ g.nonce))))
+step_owned : (n : ℕ) (key : Key) (o : Option FlowRecord) (e : Entry) (g : FlowRecord) → flow_step n key o e ≡ Some g →
+    (e ≡ Entry.Grant key g.epoch g.switch g.inc g.nonce) ⊎ ((h : FlowRecord) × ((o ≡ Some h) × ((h.epoch ≡ g.epoch) × (h.switch ≡ g.switch) × (h.inc ≡ g.inc) × (h.nonce ≡ g.nonce))))
 step_owned n key o (Entry.Grant k epoch switch inc nonce) g at = grant_case (same_key k key) refl at
   where
     grant_case : (b : Bool) → same_key k key ≡ b → (if b then Some (record { epoch = epoch; switch = switch; inc = inc; nonce = nonce; last = 0; cells = flow_cells n o }) else o) ≡ Some g →
-        (Entry.Grant k epoch switch inc nonce ≡ Entry.Grant key g.epoch g.switch g.inc g.nonce) ⊎ ((h : Flow) × ((o ≡ Some h) × ((h.epoch ≡ g.epoch) × (h.switch ≡ g.switch) × (h.inc ≡ g.inc) × (h.nonce ≡ g.nonce))))
+        (Entry.Grant k epoch switch inc nonce ≡ Entry.Grant key g.epoch g.switch g.inc g.nonce) ⊎ ((h : FlowRecord) × ((o ≡ Some h) × ((h.epoch ≡ g.epoch) × (h.switch ≡ g.switch) × (h.inc ≡ g.inc) × (h.nonce ≡ g.nonce))))
     grant_case true is e =
         let same : k ≡ key = same_key-true k key is in
         let flow : record { epoch = epoch; switch = switch; inc = inc; nonce = nonce; last = 0; cells = flow_cells n o } ≡ g = cc in
@@ -131,33 +131,33 @@ step_owned n key o (Entry.Grant k epoch switch inc nonce) g at = grant_case (sam
     grant_case false is e = inr (g, (e, (refl, refl, refl, refl)))
 step_owned n key None (Entry.Put k epoch number delta) g at = put_case (same_key k key) at
   where
-    put_case : (b : Bool) → (if b then None else None) ≡ Some g → (Entry.Put k epoch number delta ≡ Entry.Grant key g.epoch g.switch g.inc g.nonce) ⊎ ((h : Flow) × ((None ≡ Some h) × ((h.epoch ≡ g.epoch) × (h.switch ≡ g.switch) × (h.inc ≡ g.inc) × (h.nonce ≡ g.nonce))))
+    put_case : (b : Bool) → (if b then None else None) ≡ Some g → (Entry.Put k epoch number delta ≡ Entry.Grant key g.epoch g.switch g.inc g.nonce) ⊎ ((h : FlowRecord) × ((None ≡ Some h) × ((h.epoch ≡ g.epoch) × (h.switch ≡ g.switch) × (h.inc ≡ g.inc) × (h.nonce ≡ g.nonce))))
     put_case true e = cc
     put_case false e = cc
 step_owned n key (Some f) (Entry.Put k epoch number delta) g at = put_case (same_key k key) at
   where
     put_case : (b : Bool) → (if b then Some (record f { last = number; cells = written f.cells delta }) else Some f) ≡ Some g →
-        (Entry.Put k epoch number delta ≡ Entry.Grant key g.epoch g.switch g.inc g.nonce) ⊎ ((h : Flow) × ((Some f ≡ Some h) × ((h.epoch ≡ g.epoch) × (h.switch ≡ g.switch) × (h.inc ≡ g.inc) × (h.nonce ≡ g.nonce))))
-    put_case true e = let is : record f { last = number; cells = written f.cells delta } ≡ g = cc in inr (f, (refl, (ap (λ (x : Flow). x.epoch) is, ap (λ (x : Flow). x.switch) is, ap (λ (x : Flow). x.inc) is, ap (λ (x : Flow). x.nonce) is)))
+        (Entry.Put k epoch number delta ≡ Entry.Grant key g.epoch g.switch g.inc g.nonce) ⊎ ((h : FlowRecord) × ((Some f ≡ Some h) × ((h.epoch ≡ g.epoch) × (h.switch ≡ g.switch) × (h.inc ≡ g.inc) × (h.nonce ≡ g.nonce))))
+    put_case true e = let is : record f { last = number; cells = written f.cells delta } ≡ g = cc in inr (f, (refl, (ap (λ (x : FlowRecord). x.epoch) is, ap (λ (x : FlowRecord). x.switch) is, ap (λ (x : FlowRecord). x.inc) is, ap (λ (x : FlowRecord). x.nonce) is)))
     put_case false e = inr (g, (e, (refl, refl, refl, refl)))
 step_owned n key None (Entry.Snap k epoch round values) g at = snap_case (same_key k key) at
   where
-    snap_case : (b : Bool) → (if b then None else None) ≡ Some g → (Entry.Snap k epoch round values ≡ Entry.Grant key g.epoch g.switch g.inc g.nonce) ⊎ ((h : Flow) × ((None ≡ Some h) × ((h.epoch ≡ g.epoch) × (h.switch ≡ g.switch) × (h.inc ≡ g.inc) × (h.nonce ≡ g.nonce))))
+    snap_case : (b : Bool) → (if b then None else None) ≡ Some g → (Entry.Snap k epoch round values ≡ Entry.Grant key g.epoch g.switch g.inc g.nonce) ⊎ ((h : FlowRecord) × ((None ≡ Some h) × ((h.epoch ≡ g.epoch) × (h.switch ≡ g.switch) × (h.inc ≡ g.inc) × (h.nonce ≡ g.nonce))))
     snap_case true e = cc
     snap_case false e = cc
 step_owned n key (Some f) (Entry.Snap k epoch round values) g at = snap_case (same_key k key) at
   where
     snap_case : (b : Bool) → (if b then Some (record f { last = round; cells = values }) else Some f) ≡ Some g →
-        (Entry.Snap k epoch round values ≡ Entry.Grant key g.epoch g.switch g.inc g.nonce) ⊎ ((h : Flow) × ((Some f ≡ Some h) × ((h.epoch ≡ g.epoch) × (h.switch ≡ g.switch) × (h.inc ≡ g.inc) × (h.nonce ≡ g.nonce))))
-    snap_case true e = let is : record f { last = round; cells = values } ≡ g = cc in inr (f, (refl, (ap (λ (x : Flow). x.epoch) is, ap (λ (x : Flow). x.switch) is, ap (λ (x : Flow). x.inc) is, ap (λ (x : Flow). x.nonce) is)))
+        (Entry.Snap k epoch round values ≡ Entry.Grant key g.epoch g.switch g.inc g.nonce) ⊎ ((h : FlowRecord) × ((Some f ≡ Some h) × ((h.epoch ≡ g.epoch) × (h.switch ≡ g.switch) × (h.inc ≡ g.inc) × (h.nonce ≡ g.nonce))))
+    snap_case true e = let is : record f { last = round; cells = values } ≡ g = cc in inr (f, (refl, (ap (λ (x : FlowRecord). x.epoch) is, ap (λ (x : FlowRecord). x.switch) is, ap (λ (x : FlowRecord). x.inc) is, ap (λ (x : FlowRecord). x.nonce) is)))
     snap_case false e = inr (g, (e, (refl, refl, refl, refl)))
 
-owned_from : (n : ℕ) (key : Key) (o : Option Flow) (es : List Entry) (f : Flow) → flow_from n key o es ≡ Some f → OwnedBy key o es f
+owned_from : (n : ℕ) (key : Key) (o : Option FlowRecord) (es : List Entry) (f : FlowRecord) → flow_from n key o es ≡ Some f → OwnedBy key o es f
 owned_from n key o [] f at = inr (f, (at, (refl, refl, refl, refl)))
 owned_from n key o (e ∷ es) f at = owned_later key o e es f (flow_step n key o e) (owned_from n key (flow_step n key o e) es f at) (λ g is. step_owned n key o e g is)
 
 -- the Grant of a flow's epoch stands in the book
-pub granted_in : (n : ℕ) (key : Key) (es : List Entry) (f : Flow) → flow_of n key es ≡ Some f → In es (Entry.Grant key f.epoch f.switch f.inc f.nonce)
+pub granted_in : (n : ℕ) (key : Key) (es : List Entry) (f : FlowRecord) → flow_of n key es ≡ Some f → In es (Entry.Grant key f.epoch f.switch f.inc f.nonce)
 granted_in n key es f at = granted_case (owned_from n key None es f at)
   where
     granted_case : OwnedBy key None es f → In es (Entry.Grant key f.epoch f.switch f.inc f.nonce)
@@ -182,17 +182,17 @@ pub numbered_snap : (key k : Key) (epoch round : ℕ) (values : List ℕ) → sa
 numbered_snap key k epoch round values is = rw (is, eq-eqb epoch epoch refl) refl
 
 -- the flow that an entry leaves: it has the entry's number in its epoch, or is the flow as it was
-data Left (key : Key) (o : Option Flow) (e : Entry) (g : Flow) : Type 0 where
+data Left (key : Key) (o : Option FlowRecord) (e : Entry) (g : FlowRecord) : Type 0 where
   by_entry : number_in key g.epoch e ≡ Some g.last → Left key o e g
   as_before : o ≡ Some g → Left key o e g
 
-step_left : (n : ℕ) (key : Key) (o : Option Flow) (e : Entry) (g : Flow) → (same_key (entry_key e) key ≡ true → Follows o e) → flow_step n key o e ≡ Some g → Left key o e g
+step_left : (n : ℕ) (key : Key) (o : Option FlowRecord) (e : Entry) (g : FlowRecord) → (same_key (entry_key e) key ≡ true → Follows o e) → flow_step n key o e ≡ Some g → Left key o e g
 step_left n key o (Entry.Grant k epoch switch inc nonce) g fits at = left_case (same_key k key) refl at
   where
     left_case : (b : Bool) → same_key k key ≡ b → (if b then Some (record { epoch = epoch; switch = switch; inc = inc; nonce = nonce; last = 0; cells = flow_cells n o }) else o) ≡ Some g → Left key o (Entry.Grant k epoch switch inc nonce) g
     left_case true is e =
         let flow : record { epoch = epoch; switch = switch; inc = inc; nonce = nonce; last = 0; cells = flow_cells n o } ≡ g = cc in
-        subst (λ (x : Flow). Left key o (Entry.Grant k epoch switch inc nonce) x) flow (by_entry (numbered_grant key k epoch switch inc nonce is))
+        subst (λ (x : FlowRecord). Left key o (Entry.Grant k epoch switch inc nonce) x) flow (by_entry (numbered_grant key k epoch switch inc nonce is))
     left_case false is e = as_before e
 step_left n key None (Entry.Put k epoch number delta) g fits at = left_case (same_key k key) at
   where
@@ -205,7 +205,7 @@ step_left n key (Some f) (Entry.Put k epoch number delta) g fits at = left_case 
     left_case true is e =
         let flow : record f { last = number; cells = written f.cells delta } ≡ g = cc in
         let same : f.epoch ≡ epoch = (fits is).0 in
-        subst (λ (x : Flow). Left key (Some f) (Entry.Put k epoch number delta) x) flow (by_entry (rw same (numbered_put key k epoch number delta is)))
+        subst (λ (x : FlowRecord). Left key (Some f) (Entry.Put k epoch number delta) x) flow (by_entry (rw same (numbered_put key k epoch number delta is)))
     left_case false is e = as_before e
 step_left n key None (Entry.Snap k epoch round values) g fits at = left_case (same_key k key) at
   where
@@ -218,10 +218,10 @@ step_left n key (Some f) (Entry.Snap k epoch round values) g fits at = left_case
     left_case true is e =
         let flow : record f { last = round; cells = values } ≡ g = cc in
         let same : f.epoch ≡ epoch = (fits is).0 in
-        subst (λ (x : Flow). Left key (Some f) (Entry.Snap k epoch round values) x) flow (by_entry (rw same (numbered_snap key k epoch round values is)))
+        subst (λ (x : FlowRecord). Left key (Some f) (Entry.Snap k epoch round values) x) flow (by_entry (rw same (numbered_snap key k epoch round values is)))
     left_case false is e = as_before e
 
-numbered_from : (n : ℕ) (key : Key) (o : Option Flow) (es : List Entry) (f : Flow) → FitsFrom n key o es → flow_from n key o es ≡ Some f → Numbered key f.epoch f.last es ⊎ (o ≡ Some f)
+numbered_from : (n : ℕ) (key : Key) (o : Option FlowRecord) (es : List Entry) (f : FlowRecord) → FitsFrom n key o es → flow_from n key o es ≡ Some f → Numbered key f.epoch f.last es ⊎ (o ≡ Some f)
 numbered_from n key o [] f fits at = inr at
 numbered_from n key o (e ∷ es) f fits at = numbered_case (numbered_from n key (flow_step n key o e) es f fits.1 at)
   where
@@ -233,7 +233,7 @@ numbered_from n key o (e ∷ es) f fits at = numbered_case (numbered_from n key 
     numbered_case (inl h) = inl (record { entry = h.entry; there = inr h.there; number_is = h.number_is })
     numbered_case (inr is) = left_of (step_left n key o e f fits.0 is)
 
-pub last_numbered : (n : ℕ) (key : Key) (es : List Entry) (f : Flow) → FitsFrom n key None es → flow_of n key es ≡ Some f → Numbered key f.epoch f.last es
+pub last_numbered : (n : ℕ) (key : Key) (es : List Entry) (f : FlowRecord) → FitsFrom n key None es → flow_of n key es ≡ Some f → Numbered key f.epoch f.last es
 last_numbered n key es f fits at = numbered_case (numbered_from n key None es f fits at)
   where
     numbered_case : Numbered key f.epoch f.last es ⊎ (None ≡ Some f) → Numbered key f.epoch f.last es

@@ -11,7 +11,7 @@ use Rattle.proto_model.specs.Table.{Key}
 use Rattle.proto_model.specs.Feeds.{Each}
 use Rattle.proto_model.specs.Slot.{Slot, Lease, Idle, Asking, Held, Lapsed, lapsed_slot, extended}
 use Rattle.proto_model.specs.SwitchState.{Switch, Item, slot_at, lapsed}
-use Rattle.proto_model.specs.SwitchActs.{acked_lease}
+use Rattle.proto_model.specs.SwitchOutcomes.{acked_lease}
 use Rattle.proto_model.specs.World.{World, Setup, SwitchNode, opened}
 use Rattle.proto_model.specs.WorldStep.{world_after}
 use Rattle.proto_safety.proofs.Copies.{is_leased}

@@ -11,9 +11,10 @@ use Rattle.proto_model.specs.Table.{Key, same_key}
 use Rattle.proto_model.specs.Feeds.{Each}
 use Rattle.proto_model.specs.Committed.{is_in, is_closed}
 use Rattle.proto_model.specs.ReplicaRows.{entry_key}
-use Rattle.proto_model.specs.World.{Fed, Journaled}
+use Rattle.proto_model.specs.World.{Journaled}
+use Rattle.rp_base.specs.declared.legality.Fed.{Fed}
 use Rattle.proto_safety.specs.Books.{In}
-use Rattle.proto_safety.specs.Flows.{Flow, FitsFrom, flow_step, flow_of}
+use Rattle.proto_safety.specs.Flows.{FlowRecord, FitsFrom, flow_step, flow_of}
 use Rattle.proto_safety.specs.LeaseLaws.{HasEpoch}
 use Rattle.proto_safety.proofs.Tables.{same_key-refl, same_key-true}
 use Rattle.proto_safety.proofs.Chains.{each_in}
@@ -29,13 +30,13 @@ use Rattle.proto_safety.proofs.Lists.{nobody, none_before}
 
 pub record ItemsKnown (n : ℕ) (es : List Entry) (items : List Journaled) (key : Key) : Type 0 where
   -- each is of an epoch that is granted
-  pub granted : (j : Journaled) → In items j → j.item.key ≡ key → (f : Flow) × ((flow_of n key es ≡ Some f) × (j.item.epoch ≤ f.epoch))
+  pub granted : (j : Journaled) → In items j → j.item.key ≡ key → (f : FlowRecord) × ((flow_of n key es ≡ Some f) × (j.item.epoch ≤ f.epoch))
   -- numbers of an epoch rise
   pub rise : (e : ℕ) → NumbersRise (journal_in key items e)
 
 pub record CellsOf (app : Application) (fed : List Fed) (es : List Entry) (items : List Journaled) (key : Key) : Type 0 where
   -- the committed cells are the fold of the serial list
-  pub committed : (f : Flow) → flow_of app.cell_count key es ≡ Some f → f.cells ≡ ran app fed (serial_in key es items)
+  pub committed : (f : FlowRecord) → flow_of app.cell_count key es ≡ Some f → f.cells ≡ ran app fed (serial_in key es items)
   -- each item saw the committed items of earlier epochs and those before it in its own
   pub made : (e : ℕ) → EachMade app fed key (front_in key es items e) (journal_in key items e)
 
@@ -43,7 +44,7 @@ is_of_key : (key : Key) (e : ℕ) (j : Journaled) → is_in key e j ≡ true →
 is_of_key key e j is = let p = and_parts _ _ is in (same_key-true j.item.key key p.0, eqb-true j.item.epoch e p.1)
 
 -- no items of an epoch that isn't granted
-pub journal_later : (n : ℕ) (es : List Entry) (items : List Journaled) (key : Key) (f : Flow) (e : ℕ) → ItemsKnown n es items key → flow_of n key es ≡ Some f → f.epoch < e → journal_in key items e ≡ []
+pub journal_later : (n : ℕ) (es : List Entry) (items : List Journaled) (key : Key) (f : FlowRecord) (e : ℕ) → ItemsKnown n es items key → flow_of n key es ≡ Some f → f.epoch < e → journal_in key items e ≡ []
 journal_later n es items key f e k flow lt =
     nobody (journal_in key items e)
     (λ j i.
@@ -51,7 +52,7 @@ journal_later n es items key f e k flow lt =
     let of = is_of_key key e j p.1 in
     let g = k.granted j p.0 of.0 in
     let same : g.0 ≡ f = cc (sym g.1.0 ∙ flow) in
-    absurd (omega (arith, g.1.1, of.1, ap (λ (x : Flow). x.epoch) same)))
+    absurd (omega (arith, g.1.1, of.1, ap (λ (x : FlowRecord). x.epoch) same)))
 
 pub journal_never : (n : ℕ) (es : List Entry) (items : List Journaled) (key : Key) (e : ℕ) → ItemsKnown n es items key → flow_of n key es ≡ None → journal_in key items e ≡ []
 journal_never n es items key e k flow =
@@ -73,7 +74,7 @@ module _ (app : Application) (fed : List Fed) (es : List Entry) (items : List Jo
 
   -- what the entry must be, where it is a Put: that of the items with its number
   abbrev pub IsPutOf : Type 0
-  IsPutOf = (f : Flow) (delta : Delta) → flow_of app.cell_count key es ≡ Some f → x ≡ Entry.Put key f.epoch (f.last + 1) delta → PutIs app fed (front_in key es items f.epoch) (journal_in key items f.epoch) (f.last + 1) delta
+  IsPutOf = (f : FlowRecord) (delta : Delta) → flow_of app.cell_count key es ≡ Some f → x ≡ Entry.Put key f.epoch (f.last + 1) delta → PutIs app fed (front_in key es items f.epoch) (journal_in key items f.epoch) (f.last + 1) delta
 
   abbrev pub IsNoSnap : Type 0
   IsNoSnap = (epoch round : ℕ) (values : List ℕ) → x ≡ Entry.Snap key epoch round values → ⊥
@@ -92,7 +93,7 @@ module _ (app : Application) (fed : List Fed) (es : List Entry) (items : List Jo
       key_case (Entry.Put j e number delta) ne q = both_ways _ ne (rw q.0 (same_key-refl key))
       key_case (Entry.Snap j e round values) ne q = both_ways _ ne (rw q.0 (same_key-refl key))
 
-  grant_serial : (g : Flow) (switch inc nonce : ℕ) → flow_of app.cell_count key es ≡ Some g → x ≡ Entry.Grant key (g.epoch + 1) switch inc nonce → serial_in key (es ++ x ∷ []) items ≡ serial_in key es items
+  grant_serial : (g : FlowRecord) (switch inc nonce : ℕ) → flow_of app.cell_count key es ≡ Some g → x ≡ Entry.Grant key (g.epoch + 1) switch inc nonce → serial_in key (es ++ x ∷ []) items ≡ serial_in key es items
   grant_serial g switch inc nonce flow is =
       let c : ClosedAt key es (flow_of app.cell_count key es) = closes app.cell_count key es before in
       let d = c.epochs g flow in
@@ -124,7 +125,7 @@ module _ (app : Application) (fed : List Fed) (es : List Entry) (items : List Jo
           up_case e (inr (inl same)) = omega arith
           up_case e (inr (inr i)) = absurd i
 
-  put_serial : (g : Flow) (delta : Delta) → flow_of app.cell_count key es ≡ Some g → flow_of app.cell_count key (es ++ x ∷ []) ≡ Some (record g { last = g.last + 1; cells = written g.cells delta }) →
+  put_serial : (g : FlowRecord) (delta : Delta) → flow_of app.cell_count key es ≡ Some g → flow_of app.cell_count key (es ++ x ∷ []) ≡ Some (record g { last = g.last + 1; cells = written g.cells delta }) →
       PutIs app fed (front_in key es items g.epoch) (journal_in key items g.epoch) (g.last + 1) delta → written g.cells delta ≡ ran app fed (serial_in key (es ++ x ∷ []) items)
   put_serial g delta flow later is =
       ap (λ l. written l delta) old_cells
@@ -160,7 +161,7 @@ module _ (app : Application) (fed : List Fed) (es : List Entry) (items : List Jo
           ∙ (ap (λ l. l ++ closed_in key (es ++ x ∷ []) items g.epoch) (front_stays app.cell_count key es (x ∷ []) fits g flow items g.epoch (omega arith))
           ∙ ap (λ l. front ++ l) (ap (λ c. filter (is_closed c) js) new_closing ∙ two))
 
-  next_committed : {o u : Option Flow} {y : Entry} → Stepped app.cell_count key o y u → x ≡ y → flow_of app.cell_count key es ≡ o → flow_of app.cell_count key (es ++ x ∷ []) ≡ u → IsPutOf → IsNoSnap → (f : Flow) → u ≡ Some f → f.cells ≡ ran app fed (serial_in key (es ++ x ∷ []) items)
+  next_committed : {o u : Option FlowRecord} {y : Entry} → Stepped app.cell_count key o y u → x ≡ y → flow_of app.cell_count key es ≡ o → flow_of app.cell_count key (es ++ x ∷ []) ≡ u → IsPutOf → IsNoSnap → (f : FlowRecord) → u ≡ Some f → f.cells ≡ ran app fed (serial_in key (es ++ x ∷ []) items)
   next_committed (other ne) e flow later is snapless f at =
       let other_key : same_key (entry_key x) key ≡ false = subst (λ z. same_key (entry_key z) key ≡ false) (sym e) ne in
       h.committed f (flow ∙ at)
@@ -181,12 +182,12 @@ module _ (app : Application) (fed : List Fed) (es : List Entry) (items : List Jo
   next_made : IsPutOf → IsNoSnap → (e : ℕ) → EachMade app fed key (front_in key (es ++ x ∷ []) items e) (journal_in key items e)
   next_made is snapless e = flow_case (flow_of app.cell_count key es) refl
     where
-      epoch_case : (f : Flow) → flow_of app.cell_count key es ≡ Some f → (b : Bool) → nat_le e f.epoch ≡ b → EachMade app fed key (front_in key (es ++ x ∷ []) items e) (journal_in key items e)
+      epoch_case : (f : FlowRecord) → flow_of app.cell_count key es ≡ Some f → (b : Bool) → nat_le e f.epoch ≡ b → EachMade app fed key (front_in key (es ++ x ∷ []) items e) (journal_in key items e)
       epoch_case f flow true le =
           subst (λ l. EachMade app fed key l (journal_in key items e)) (sym (front_stays app.cell_count key es (x ∷ []) fits f flow items e (leb-true e f.epoch le))) (h.made e)
       epoch_case f flow false gt = no_journal_made app fed key _ (journal_in key items e) (journal_later app.cell_count es items key f e k flow (leb-false e f.epoch gt))
 
-      flow_case : (o : Option Flow) → flow_of app.cell_count key es ≡ o → EachMade app fed key (front_in key (es ++ x ∷ []) items e) (journal_in key items e)
+      flow_case : (o : Option FlowRecord) → flow_of app.cell_count key es ≡ o → EachMade app fed key (front_in key (es ++ x ∷ []) items e) (journal_in key items e)
       flow_case None flow = no_journal_made app fed key _ (journal_in key items e) (journal_never app.cell_count es items key e k flow)
       flow_case (Some f) flow = epoch_case f flow (nat_le e f.epoch) refl
 
@@ -242,7 +243,7 @@ module _ (app : Application) (fed : List Fed) (es : List Entry) (items : List Jo
             (subst (λ l. EachMade app fed key (front_in key es items e) l) (sym (other_journal key e (not_in_key key e ne))) (h.made e));
       }
 
-  module _ (key : Key) (f : Flow) (fits : FitsFrom app.cell_count key None es) (flow : flow_of app.cell_count key es ≡ Some f) (k : ItemsKnown app.cell_count es items key) (h : CellsOf app fed es items key)
+  module _ (key : Key) (f : FlowRecord) (fits : FitsFrom app.cell_count key None es) (flow : flow_of app.cell_count key es ≡ Some f) (k : ItemsKnown app.cell_count es items key) (h : CellsOf app fed es items key)
       (same : j.item.key ≡ key) (present : j.item.epoch ≡ f.epoch) (m : MadeIn app fed key (front_in key es items f.epoch ++ journal_in key items f.epoch) j)
       (above : Each (λ (i : Journaled). i.item.number ≤ j.item.number) (journal_in key items f.epoch)) where
     own : is_in key f.epoch j ≡ true
@@ -322,6 +323,6 @@ module _ (app : Application) (fed : List Fed) (es : List Entry) (items : List Jo
     pub item_cells : CleanIfClosed → CellsOf app fed es more key
     item_cells clean =
         record {
-          committed = λ g at. let e : f ≡ g = cc (sym flow ∙ at) in subst (λ (x : Flow). x.cells ≡ ran app fed (serial_in key es more)) e (committed_more clean (nat_le j.item.number f.last) refl);
+          committed = λ g at. let e : f ≡ g = cc (sym flow ∙ at) in subst (λ (x : FlowRecord). x.cells ≡ ran app fed (serial_in key es more)) e (committed_more clean (nat_le j.item.number f.last) refl);
           made = λ e. made_more e (e == f.epoch) refl (nat_le e f.epoch) refl;
         }

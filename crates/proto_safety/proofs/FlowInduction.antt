@@ -10,7 +10,7 @@ use Rattle.proto_model.specs.Feeds.{Each}
 use Rattle.proto_model.specs.SwitchState.{Switch, Item, lapsed}
 use Rattle.proto_model.specs.SwitchAlarm.{alarm, walk_order}
 use Rattle.proto_model.specs.SwitchRow.{SwitchRow, Resends, switch_row}
-use Rattle.proto_model.specs.SwitchActs.{perform}
+use Rattle.proto_model.specs.SwitchOutcomes.{perform}
 use Rattle.proto_model.specs.SwitchRows.{switch_step}
 use Rattle.proto_model.specs.World.{Setup, SwitchNode, opened, below, open_switch_node}
 use Rattle.proto_model.specs.WorldStep.{world_after, advanced_switches}

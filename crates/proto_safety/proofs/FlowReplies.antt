@@ -14,7 +14,7 @@ use Rattle.proto_model.specs.Table.{Key}
 use Rattle.proto_model.specs.Slot.{Slot, Lease, Idle, Asking, Held, Lapsed, lapsed_slot, lapsed_lease}
 use Rattle.proto_model.specs.SwitchState.{Copy, Item, is_covered}
 use Rattle.proto_model.specs.SwitchRow.{has_epoch}
-use Rattle.proto_model.specs.SwitchActs.{acked_lease}
+use Rattle.proto_model.specs.SwitchOutcomes.{acked_lease}
 use Rattle.proto_safety.specs.Books.{In, IsPrefix}
 use Rattle.proto_safety.specs.Flows.{GrantedIn, AckedIn, Reply, ToSwitch}
 use Rattle.proto_safety.specs.CellLaws.{Reached, Rests, SlotRests}

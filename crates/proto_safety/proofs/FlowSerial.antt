@@ -10,7 +10,8 @@ use Rattle.rp_app.specs.Application.{Application, Delta, after, after_one, writt
 use Rattle.proto_model.specs.Table.{Key}
 use Rattle.proto_model.specs.Feeds.{Each, packet_at, packets_at}
 use Rattle.proto_model.specs.SwitchRow.{is_clean}
-use Rattle.proto_model.specs.World.{Fed, Journaled}
+use Rattle.proto_model.specs.World.{Journaled}
+use Rattle.rp_base.specs.declared.legality.Fed.{Fed}
 use Rattle.proto_safety.proofs.NumberSplits.{below, at_number}
 
 -- ---- packets of items, and cells after them

@@ -14,8 +14,8 @@ use Rattle.proto_model.specs.Ring.{remember}
 use Rattle.proto_model.specs.Slot.{Round, may, updated, extended, acknowledged, fresh_slot, is_young, Slot, Idle, Asking, Held, emptied}
 use Rattle.proto_model.specs.SwitchState.{Switch, Copy, Item, slot_at, with_slot, without_copies, has_copies, is_of, is_covered, greatest_first}
 use Rattle.proto_model.specs.SwitchRow.{SwitchRow, is_clean, asked_mark, granted, without_asked, has_epoch}
-use Rattle.proto_model.specs.SwitchActs.{late_did, perform, item_of, remember_output, acked_lease, forget_load, idled}
-use Rattle.proto_safety.proofs.SwitchTable.{stale, keyless, no_room, adopted, resends, msg, Ready, Acts, first_ask, ask_idle, ask_anew, ask_lapsed, ask_again, no_copy_room, direct, mirrored, snapped, too_old, granted_only, late, acked, round_done, denied, busied}
+use Rattle.proto_model.specs.SwitchOutcomes.{late_did, perform, item_of, remember_output, acked_lease, forget_load, idled}
+use Rattle.proto_safety.proofs.SwitchTable.{stale, keyless, no_room, adopted, resends, msg, Ready, RowTaken, first_ask, ask_idle, ask_anew, ask_lapsed, ask_again, no_copy_room, direct, mirrored, snapped, too_old, granted_only, late, acked, round_done, denied, busied}
 use Rattle.proto_safety.proofs.FlowMoves.{view, none, more, asks, asks_again, takes_grant, forgets, idles, same_view, Steps, untouched, ready_moves, ready_held, ready_brings, Brings, one_more_same, one_more_other, none_given_up, none_of, filter_comm, covered_of, covered_elsewhere}
 use Rattle.proto_safety.proofs.FlowMoves.{snapped as moves_snapped, round_done as moves_round_done, direct as moves_direct, mirrored as moves_mirrored, acked as moves_acked}
 use Rattle.proto_safety.proofs.OtherFlows.{given_up_elsewhere}
@@ -176,7 +176,7 @@ late_item key None = refl
 late_item key (Some m) = refl
 
 -- a row's moves of one flow, but for the Alarm
-pub row_moves : (app : Application) (s : Switch) (now : ℕ) (input : Input) (key : Key) (row : SwitchRow) → Acts app s now input row → (input ≡ Input.Alarm → ⊥) → RowMoves app s now input key row
+pub row_moves : (app : Application) (s : Switch) (now : ℕ) (input : Input) (key : Key) (row : SwitchRow) → RowTaken app s now input row → (input ≡ Input.Alarm → ⊥) → RowMoves app s now input key row
 row_moves app s now input key row stale out = none
 row_moves app s now input key row (keyless of) out = none
 row_moves app s now input key row (no_room of at) out = none

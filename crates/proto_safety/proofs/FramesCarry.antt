@@ -11,13 +11,14 @@ use Rattle.proto_data.specs.declared.message.Carried.{Carried}
 use Rattle.proto_data.specs.declared.message.Input.{Input}
 use Rattle.rp_base.specs.declared.event.Event.{Event}
 use Rattle.rp_app.specs.Application.{Application}
-use Rattle.proto_model.specs.Carrying.{packet_of}
+use Rattle.proto_data.specs.Carrying.{packet_of}
 use Rattle.proto_model.specs.Table.{Key}
 use Rattle.proto_model.specs.Feeds.{Each, packet_at}
 use Rattle.proto_safety.specs.Loads.{OnLoad, OnPacket, WasFed}
 use Rattle.proto_model.specs.SwitchRows.{switch_step}
 use Rattle.proto_model.specs.ReplicaRows.{store_step}
-use Rattle.proto_model.specs.World.{World, Setup, Fed, SwitchNode, ReplicaNode, opened, running_switches, running_replicas}
+use Rattle.proto_model.specs.World.{World, Setup, SwitchNode, ReplicaNode, opened, running_switches, running_replicas}
+use Rattle.rp_base.specs.declared.legality.Fed.{Fed}
 use Rattle.proto_model.specs.WorldStep.{world_after, announcements, config_msg}
 use Rattle.proto_safety.proofs.Lists.{each_at, each_append, each_map, each_weaker}
 use Rattle.proto_safety.proofs.Induction.{KeepsGiven, keeps_both, run_kept, Comes}

@@ -11,7 +11,7 @@ use Rattle.rp_app.specs.Application.{Application}
 use Rattle.proto_model.specs.Table.{Key}
 use Rattle.proto_model.specs.Slot.{Slot, Lease, Round, Idle, Asking, Held, Lapsed, epoch_of, lapsed_lease, extended}
 use Rattle.proto_model.specs.SwitchState.{Copy, slot_at, is_covered, greatest_first}
-use Rattle.proto_model.specs.SwitchActs.{acked_lease}
+use Rattle.proto_model.specs.SwitchOutcomes.{acked_lease}
 use Rattle.proto_model.specs.Committed.{number_in}
 use Rattle.proto_model.specs.World.{World, SwitchNode}
 use Rattle.proto_safety.specs.Books.{In, IsPrefix, committed_of}

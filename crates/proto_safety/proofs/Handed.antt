@@ -90,12 +90,12 @@ abbrev pub HandedHold : List First → World → Type 0
 HandedHold fs w = (r : ℕ) (replica : ReplicaNode) → slice_get w.replicas r ≡ Some replica → BookHanded fs w (entries_of replica.book)
 
 -- the terms are such that a store that has waited for its term has waited longer than a switch's, within the ratio
-pub term_passed : (k t_switch t_store now moment b a x : ℕ) → 1 ≤ k → k * t_switch ≤ 1000 * t_store → t_store ≤ now - moment → 1 ≤ t_store → b ≤ moment → 1000 * now + k * a ≤ k * x + 1000 * b → a + t_switch ≤ x
-term_passed k t_switch t_store now moment b a x some hold waited store le aged = test_case (nat_le (a + t_switch) x) refl
+pub term_passed : (k t_switch t_store now moment b a x : ℕ) → 1 ≤ k → k * t_switch ≤ 1000 * t_store → t_store ≤ now - moment → b ≤ now → b ≤ moment → 1000 * now + k * a ≤ k * x + 1000 * b → a + t_switch ≤ x
+term_passed k t_switch t_store now moment b a x some hold waited until le aged = test_case (nat_le (a + t_switch) x) refl
   where
     test_case : (t : Bool) → nat_le (a + t_switch) x ≡ t → a + t_switch ≤ x
     test_case true t = leb-true (a + t_switch) x t
     test_case false t =
         let below : x + 1 ≤ a + t_switch = omega (arith, leb-false (a + t_switch) x t) in
         let scaled : k * (x + 1) ≤ k * (a + t_switch) = mul-le-mul_left k below in
-        absurd (omega (arith, scaled, some, hold, waited, store, le, aged))
+        absurd (omega (arith, scaled, some, hold, waited, until, le, aged))

@@ -34,7 +34,7 @@ use Rattle.proto_safety.proofs.HandedOn.{ClocksOn, SameBooks, handed_on}
 use Rattle.proto_safety.proofs.HandedStep.{stored_handed}
 use Rattle.proto_safety.proofs.Induction.{Keeps, with_fed}
 use Rattle.proto_safety.proofs.LastBook.{advanced_at}
-use Rattle.proto_safety.proofs.LegalRun.{Laid, legal_by}
+use Rattle.proto_safety.proofs.LegalRun.{Laid}
 use Rattle.proto_safety.proofs.Lists.{each_at, none_before}
 use Rattle.proto_safety.proofs.Over.{over_late}
 use Rattle.proto_safety.proofs.Places.{at_set, at_changed}
@@ -209,8 +209,8 @@ opened_firsts app setup =
       aged = λ f r node b i at j is. absurd i;
     }
 
-pub opened_ending : (app : Application) (setup : Setup) → TermsHold setup.terms.t_switch setup.terms.t_store setup.terms.ratio → 1 ≤ setup.terms.t_store → Ending [] (opened app.cell_count setup)
-opened_ending app setup hold some = (
+pub opened_ending : (app : Application) (setup : Setup) → TermsHold setup.terms.t_switch setup.terms.t_store setup.terms.ratio → Ending [] (opened app.cell_count setup)
+opened_ending app setup hold = (
   (
     opened_firsts app setup,
     λ n node key slot at found.
@@ -219,7 +219,7 @@ opened_ending app setup hold some = (
   (
     λ r replica at key epoch s i m n inc nonce before behind is granted.
         absurd (no_books (open_replica_node app.cell_count setup) (λ k. refl) (below setup.replicas) r replica at before behind (Entry.Grant key (epoch + 1) n inc nonce) is),
-    (opened_moments app.cell_count setup, opened_timed app.cell_count setup hold some),
+    (opened_moments app.cell_count setup, opened_timed app.cell_count setup hold),
   ),
 )
   where
@@ -229,9 +229,3 @@ opened_ending app setup hold some = (
         let same : make n ≡ replica = cc in
         let none : entries_of replica.book ≡ [] = ap (λ (y : ReplicaNode). entries_of y.book) (sym same) ∙ ap entries_of (empty n) in absurd (none_before before behind x (sym none ∙ is))
     no_books make empty (n ∷ ns) (suc r) replica at before behind x is = no_books make empty ns r replica at before behind x is
-
--- after every list of events the history is legal
-pub runs_are_legal : (app : Application) → IsApplication app → (setup : Setup) → setup.terms.mode ≡ Mode.Strict → TermsHold setup.terms.t_switch setup.terms.t_store setup.terms.ratio → 1 ≤ setup.terms.t_store → (events : List Event) →
-    IsLegal app (world_after app (opened app.cell_count setup) events)
-runs_are_legal app is setup strict hold some events =
-    legal_by app is Ending (ending_kept app) (λ w fs. ends_leases app w fs) setup strict [] (opened_ending app setup hold some) events

@@ -30,6 +30,7 @@ use Rattle.proto_safety.proofs.FlowAlarm.{in_map}
 use Rattle.proto_safety.proofs.FlowBooks.{stands_flow, granted_in}
 use Rattle.proto_safety.proofs.Ground.{Ground, known_of}
 use Rattle.proto_safety.proofs.Handed.{GrantBy, as_first, as_own, as_other, as_sent, granted_by, Passed, RunOut, BookHanded, HandedHold, term_passed}
+use Rattle.proto_safety.proofs.Chains.{each_in}
 use Rattle.proto_safety.proofs.Lists.{each_at, none_before}
 use Rattle.proto_safety.proofs.Places.{at_set}
 use Rattle.proto_safety.proofs.StoreBooks.{Has, row_applies, by_forward}
@@ -111,9 +112,10 @@ module _ (app : Application) (w : World) (fs : List First) (n : ℕ) (node : Rep
         let records : get (records_of node.state.cell_count node.book) key ≡ Some r = subst (λ rs. get rs key ≡ Some r) mine.stands.records_along has in
         let same : entry_key b.0.entry ≡ key = ap entry_key b.1.1 ∙ same_key-true (entry_key e) key (key_of_epoch key epoch e he) in
         let last : b.0.moment ≤ r.moment = last_in_book node.state.cell_count node.book (each_at NodeMoments w.replicas n node moments at).rise key r b.0 records b.1.0 same in
+        let until : b.0.moment ≤ node.clock = each_in (λ (c : Booked). c.moment ≤ node.clock) node.book b.0 (each_at NodeMoments w.replicas n node moments at).until b.1.0 in
         let store : w.terms.t_store ≤ node.clock - r.moment = subst (λ t. t ≤ node.clock - r.moment) (ap (λ t. t.t_store) terms) waited in
         let some : 1 ≤ 1000 + w.terms.ratio = omega arith in
-        term_passed (1000 + w.terms.ratio) w.terms.t_switch w.terms.t_store node.clock r.moment b.0.moment f.moment other.clock some timed.hold store timed.some last bound
+        term_passed (1000 + w.terms.ratio) w.terms.t_switch w.terms.t_store node.clock r.moment b.0.moment f.moment other.clock some timed.hold store until last bound
 
     first_case : epoch + 1 ≡ 1 → Rests
     first_case e = let above : 1 ≤ epoch = grant_above app.cell_count key None (entries_of node.book) epoch s i m (fits key) granted in absurd (omega (arith, e, above))

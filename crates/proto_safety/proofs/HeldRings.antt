@@ -7,11 +7,11 @@ use Rattle.proto_data.specs.declared.message.Msg.{Msg}
 use Rattle.proto_data.specs.declared.message.Input.{Input}
 use Rattle.proto_data.specs.declared.message.Carried.{Carried}
 use Rattle.rp_app.specs.Application.{Application}
-use Rattle.proto_model.specs.Carrying.{output_of}
+use Rattle.proto_data.specs.Carrying.{output_of}
 use Rattle.proto_model.specs.Ring.{Ring, holds, remembers, remember, forget, ring_room}
 use Rattle.proto_model.specs.Slot.{Slot, epoch_of, lapsed_slot}
 use Rattle.proto_model.specs.Straight.{enters_held, from_switch}
-use Rattle.proto_model.specs.SwitchActs.{perform}
+use Rattle.proto_model.specs.SwitchOutcomes.{perform}
 use Rattle.proto_model.specs.SwitchAlarm.{Walk, walk_order}
 use Rattle.proto_model.specs.SwitchRow.{SwitchRow, NewAsk, AskAgain, Drops, Direct, Mirrored, Granted, Late, Acked, RoundDone, Denied, Busied, Resends, switch_row}
 use Rattle.proto_model.specs.SwitchRows.{switch_step}
@@ -21,7 +21,7 @@ use Rattle.proto_safety.proofs.AlarmInduction.{WalkKeeps, walk_kept}
 use Rattle.proto_safety.proofs.Lists.{length_map}
 use Rattle.proto_safety.proofs.SlotCells.{mapped}
 use Rattle.proto_safety.proofs.SwitchMarks.{ready_marks}
-use Rattle.proto_safety.proofs.SwitchTable.{Acts, ask_again, no_copy_room, too_old, direct, snapped, mirrored, granted_only, acked, round_done, busied, row_acts}
+use Rattle.proto_safety.proofs.SwitchTable.{RowTaken, ask_again, no_copy_room, too_old, direct, snapped, mirrored, granted_only, acked, round_done, busied, row_taken}
 use Rattle.proto_safety.proofs.Tables.{get-put_same, get-put_other, get-map_values, same_key-true, same_key-refl, same_some}
 
 -- ---- a mark in a ring
@@ -141,7 +141,7 @@ module _ (app : Application) (s : Switch) (now : ℕ) where
   alarm_were did k v at =
       let o = walk_kept now Same walk_same (walk_order s.walked (map (λ (e : Key × Slot). e.0) s.slots)) _ (λ k v at. (v, (at, refl))) k v at in stays o.0 o.1.0 o.1.1
 
-  row_were : {input : Input} (row : SwitchRow) → Acts app s now input row → Were (perform s now row).1 (perform s now row).0.slots
+  row_were : {input : Input} (row : SwitchRow) → RowTaken app s now input row → Were (perform s now row).1 (perform s now row).0.slots
   row_were {input} (NewAsk key slot packet) f = one _ key _ (given_up refl)
   row_were {input} (AskAgain key slot nonce packet) (ask_again of at is young) = one _ key _ (stays slot at refl)
   row_were {input} (Drops key slot mark cause) (no_copy_room r m full) = let o = ready_marks app s now r in one _ key slot (stays o.old o.at o.held)
@@ -174,4 +174,4 @@ lapsed_held me now slots did k v (given_up is) = given_up is
 
 pub step_held : (app : Application) (s : Switch) (now : ℕ) (input : Input) (k : Key) (v : Slot) → slot_at (switch_step app s now input).0 k ≡ Some v → HeldWas s.me s.slots (switch_step app s now input).1 k v
 step_held app s now input k v at =
-    lapsed_held s.me now s.slots _ k v (row_were app (lapsed now s) now (switch_row app (lapsed now s) now input) (row_acts app (lapsed now s) now input) k v at)
+    lapsed_held s.me now s.slots _ k v (row_were app (lapsed now s) now (switch_row app (lapsed now s) now input) (row_taken app (lapsed now s) now input) k v at)

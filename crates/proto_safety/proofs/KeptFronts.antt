@@ -15,9 +15,10 @@ use Rattle.proto_model.specs.Feeds.{Each, packets_at}
 use Rattle.proto_model.specs.Committed.{is_in, journal, committed_book}
 use Rattle.proto_model.specs.Kept.{is_round, items_before, kept_at, marks_in, kept_marks, after_marks, base}
 use Rattle.proto_model.specs.ReplicaRows.{entry_key}
-use Rattle.proto_model.specs.World.{World, Fed, Journaled, RoundBegun}
+use Rattle.proto_model.specs.World.{World, Journaled, RoundBegun}
+use Rattle.rp_base.specs.declared.legality.Fed.{Fed}
 use Rattle.proto_safety.specs.Books.{In, committed_of}
-use Rattle.proto_safety.specs.Flows.{Flow, FitsFrom, flow_of, flow_step}
+use Rattle.proto_safety.specs.Flows.{FlowRecord, FitsFrom, flow_of, flow_step}
 use Rattle.proto_safety.specs.LeaseLaws.{HasEpoch}
 use Rattle.proto_safety.specs.LossLaws.{round_at, items_at, kept_items, kept_front, cells_over, RoundIs}
 use Rattle.proto_safety.proofs.BookEpochs.{Stepped, other, first, next, put, snap, stepped, fits_parts, in_middle}
@@ -89,7 +90,7 @@ at_more key e items more b le = ap (filter (is_in key e)) (take-append-le b.item
 -- ---- fronts
 
 module _ (key : Key) where
-  -- the same closings
+  -- the same committed_flows
   pub front_closings : (es later : List Entry) (items : List Journaled) (rounds : List RoundBegun) (e : ℕ) → ((d : ℕ) → d < e → closing_in key d later ≡ closing_in key d es) → kept_front key later items rounds e ≡ kept_front key es items rounds e
   front_closings es later items rounds zero h = refl
   front_closings es later items rounds (suc e) h =
@@ -98,7 +99,7 @@ module _ (key : Key) where
       ap (λ l. l ++ kept_items key e items rounds (closing_in key e later)) f ∙ ap (λ o. kept_front key es items rounds e ++ kept_items key e items rounds o) c
 
   -- a book that goes on behind the grant of the epoch
-  pub front_entries : (n : ℕ) (es more : List Entry) (items : List Journaled) (rounds : List RoundBegun) (f : Flow) (e : ℕ) → FitsFrom n key None (es ++ more) → flow_of n key es ≡ Some f → e ≤ f.epoch →
+  pub front_entries : (n : ℕ) (es more : List Entry) (items : List Journaled) (rounds : List RoundBegun) (f : FlowRecord) (e : ℕ) → FitsFrom n key None (es ++ more) → flow_of n key es ≡ Some f → e ≤ f.epoch →
       kept_front key (es ++ more) items rounds e ≡ kept_front key es items rounds e
   front_entries n es more items rounds f e fits flow le = front_closings es (es ++ more) items rounds e (λ d lt. earlier_closing n key es more fits f flow d (omega arith))
 
@@ -143,11 +144,11 @@ module _ (key : Key) where
 
 -- ---- epochs begin at 1
 
-abbrev FromOne : Option Flow → Type 0
+abbrev FromOne : Option FlowRecord → Type 0
 FromOne None = Unit {0}
 FromOne (Some f) = 1 ≤ f.epoch
 
-one_step : {n : ℕ} {key : Key} {o u : Option Flow} {x : Entry} → Stepped n key o x u → FromOne o → FromOne u × (HasEpoch key 0 x → ⊥)
+one_step : {n : ℕ} {key : Key} {o u : Option FlowRecord} {x : Entry} → Stepped n key o x u → FromOne o → FromOne u × (HasEpoch key 0 x → ⊥)
 one_step {key = key} {x = x} (other ne) h = (h, λ q. absurd (other_epoch x q ne))
   where
     other_epoch : (x : Entry) → HasEpoch key 0 x → same_key (entry_key x) key ≡ false → ⊥
@@ -159,7 +160,7 @@ one_step next h = (omega arith, λ q. absurd (omega (arith, q.1)))
 one_step put h = (h, λ q. absurd (omega (arith, q.1, h)))
 one_step snap h = (h, λ q. absurd (omega (arith, q.1, h)))
 
-none_at_zero : (n : ℕ) (key : Key) (o : Option Flow) (es : List Entry) → FitsFrom n key o es → FromOne o → (x : Entry) → In es x → HasEpoch key 0 x → ⊥
+none_at_zero : (n : ℕ) (key : Key) (o : Option FlowRecord) (es : List Entry) → FitsFrom n key o es → FromOne o → (x : Entry) → In es x → HasEpoch key 0 x → ⊥
 none_at_zero n key o [] fits h x i q = absurd i
 none_at_zero n key o (y ∷ ys) fits h x (inl e) q = (one_step (stepped n key o y fits.0) h).1 (subst (HasEpoch key 0) (sym e) q)
 none_at_zero n key o (y ∷ ys) fits h x (inr i) q = none_at_zero n key (flow_step n key o y) ys fits.1 (one_step (stepped n key o y fits.0) h).0 x i q
@@ -203,8 +204,8 @@ pub record BookRounds (app : Application) (feeds : List Fed) (es : List Entry) (
   pub begun : Each (λ (b : RoundBegun). 1 ≤ b.begun.round) rounds
 
 module _ (app : Application) (feeds : List Fed) (es : List Entry) (items : List Journaled) (rounds : List RoundBegun) (key : Key) (fits : FitsFrom app.cell_count key None es) (h : BookRounds app feeds es items rounds key) where
-  abbrev Fine : List Entry → Option Flow → Type 0
-  Fine p o = (f : Flow) → o ≡ Some f → f.cells ≡ cells_over app feeds (kept_front key p items rounds (suc f.epoch))
+  abbrev Fine : List Entry → Option FlowRecord → Type 0
+  Fine p o = (f : FlowRecord) → o ≡ Some f → f.cells ≡ cells_over app feeds (kept_front key p items rounds (suc f.epoch))
 
   -- no round has the number 0
   zero_round : (e : ℕ) → round_at key e 0 rounds ≡ None
@@ -221,7 +222,7 @@ module _ (app : Application) (feeds : List Fed) (es : List Entry) (items : List 
   last_same p x e none = front_closings key p (p ++ x ∷ []) items rounds (suc e) (λ d lt. same_closing key d p x (no_number key d x (none d (omega arith))))
 
   -- one more entry
-  fine_step : {o u : Option Flow} {x : Entry} (p rest : List Entry) → es ≡ p ++ x ∷ rest → flow_of app.cell_count key p ≡ o → flow_of app.cell_count key (p ++ x ∷ []) ≡ u → FitsFrom app.cell_count key None p → FitsFrom app.cell_count key None (p ++ x ∷ []) → Stepped app.cell_count key o x u → Fine p o → Fine (p ++ x ∷ []) u
+  fine_step : {o u : Option FlowRecord} {x : Entry} (p rest : List Entry) → es ≡ p ++ x ∷ rest → flow_of app.cell_count key p ≡ o → flow_of app.cell_count key (p ++ x ∷ []) ≡ u → FitsFrom app.cell_count key None p → FitsFrom app.cell_count key None (p ++ x ∷ []) → Stepped app.cell_count key o x u → Fine p o → Fine (p ++ x ∷ []) u
   fine_step {x = x} p rest whole flow later old new (other ne) k f is =
       k f is ∙ ap (cells_over app feeds) (sym (last_same p x f.epoch (λ d le q. absurd (other_epoch d x q ne))))
     where
@@ -230,22 +231,22 @@ module _ (app : Application) (feeds : List Fed) (es : List Entry) (items : List 
       other_epoch d (Entry.Put j e m delta) q ne = both_ways _ ne (rw q.0 (same_key-refl key))
       other_epoch d (Entry.Snap j e m v) q ne = both_ways _ ne (rw q.0 (same_key-refl key))
   fine_step p rest whole flow later old new (first {switch = s} {inc = i} {nonce = m}) k f is =
-      let g : Flow = record { epoch = 1; switch = s; inc = i; nonce = m; last = 0; cells = zeros app.cell_count } in
+      let g : FlowRecord = record { epoch = 1; switch = s; inc = i; nonce = m; last = 0; cells = zeros app.cell_count } in
       let e : List Entry = p ++ Entry.Grant key 1 s i m ∷ [] in
       let c : closing_in key 1 (p ++ Entry.Grant key 1 s i m ∷ []) ≡ Some 0 = (closes app.cell_count key (p ++ Entry.Grant key 1 s i m ∷ []) new).last g later in
       let same : g ≡ f = cc in
-      subst (λ (y : Flow). y.cells ≡ cells_over app feeds (kept_front key (p ++ Entry.Grant key 1 s i m ∷ []) items rounds (suc y.epoch))) same
+      subst (λ (y : FlowRecord). y.cells ≡ cells_over app feeds (kept_front key (p ++ Entry.Grant key 1 s i m ∷ []) items rounds (suc y.epoch))) same
       (ap (cells_over app feeds) (sym (front_one (p ++ Entry.Grant key 1 s i m ∷ []) new c)))
     where
       front_one : (q : List Entry) → FitsFrom app.cell_count key None q → closing_in key 1 q ≡ Some 0 → kept_front key q items rounds 2 ≡ []
       front_one q fit c =
           ap (λ o. ([] ++ kept_items key 0 items rounds o) ++ kept_items key 1 items rounds (closing_in key 1 q)) (closing_zero app.cell_count key q fit) ∙ kept_zero 1 (closing_in key 1 q) c
   fine_step p rest whole flow later old new (next {f = g} {switch = s} {inc = i} {nonce = m}) k f is =
-      let n : Flow = record { epoch = g.epoch + 1; switch = s; inc = i; nonce = m; last = 0; cells = g.cells } in
+      let n : FlowRecord = record { epoch = g.epoch + 1; switch = s; inc = i; nonce = m; last = 0; cells = g.cells } in
       let c : closing_in key (g.epoch + 1) (p ++ Entry.Grant key (g.epoch + 1) s i m ∷ []) ≡ Some 0 = (closes app.cell_count key (p ++ Entry.Grant key (g.epoch + 1) s i m ∷ []) new).last n later in
       let same : n ≡ f = cc in
       let e : g.epoch + 1 ≡ suc g.epoch = omega arith in
-      subst (λ (y : Flow). y.cells ≡ cells_over app feeds (kept_front key (p ++ Entry.Grant key (g.epoch + 1) s i m ∷ []) items rounds (suc y.epoch))) same
+      subst (λ (y : FlowRecord). y.cells ≡ cells_over app feeds (kept_front key (p ++ Entry.Grant key (g.epoch + 1) s i m ∷ []) items rounds (suc y.epoch))) same
       (k g refl
       ∙ ap (cells_over app feeds)
       (sym
@@ -257,7 +258,7 @@ module _ (app : Application) (feeds : List Fed) (es : List Entry) (items : List 
       next_front q d same c = ap (λ l. kept_front key q items rounds (suc d) ++ l) (kept_zero (suc d) (closing_in key (suc d) q) c) ∙ (append-nil (kept_front key q items rounds (suc d)) ∙ same)
   fine_step p rest whole flow later old new (put {f = g} {delta = d}) k f is = absurd (h.puts g.epoch (g.last + 1) d (subst (λ l. In l (Entry.Put key g.epoch (g.last + 1) d)) (sym whole) (in_middle p rest (Entry.Put key g.epoch (g.last + 1) d))))
   fine_step p rest whole flow later old new (snap {f = g} {values = v}) k f is =
-      let n : Flow = record g { last = g.last + 1; cells = v } in
+      let n : FlowRecord = record g { last = g.last + 1; cells = v } in
       let x : Entry = Entry.Snap key g.epoch (g.last + 1) v in
       let r = h.snaps g.epoch (g.last + 1) v (subst (λ l. In l (Entry.Snap key g.epoch (g.last + 1) v)) (sym whole) (in_middle p rest (Entry.Snap key g.epoch (g.last + 1) v))) in
       let c : closing_in key g.epoch (p ++ Entry.Snap key g.epoch (g.last + 1) v ∷ []) ≡ Some (g.last + 1) = (closes app.cell_count key (p ++ Entry.Snap key g.epoch (g.last + 1) v ∷ []) new).last n later in
@@ -266,7 +267,7 @@ module _ (app : Application) (feeds : List Fed) (es : List Entry) (items : List 
       let front : kept_front key es items rounds g.epoch ≡ kept_front key (p ++ Entry.Snap key g.epoch (g.last + 1) v ∷ []) items rounds g.epoch =
       ap (λ l. kept_front key l items rounds g.epoch) split
       ∙ front_entries key app.cell_count (p ++ Entry.Snap key g.epoch (g.last + 1) v ∷ []) rest items rounds n g.epoch (subst (λ l. FitsFrom app.cell_count key None l) split fits) later (omega arith) in
-      subst (λ (y : Flow). y.cells ≡ cells_over app feeds (kept_front key (p ++ Entry.Snap key g.epoch (g.last + 1) v ∷ []) items rounds (suc y.epoch))) same
+      subst (λ (y : FlowRecord). y.cells ≡ cells_over app feeds (kept_front key (p ++ Entry.Snap key g.epoch (g.last + 1) v ∷ []) items rounds (suc y.epoch))) same
       (r.cells_are
       ∙ (ap (λ l. cells_over app feeds (l ++ items_at key g.epoch items (Some r.begun))) front
       ∙ (ap (λ o. cells_over app feeds (kept_front key (p ++ Entry.Snap key g.epoch (g.last + 1) v ∷ []) items rounds g.epoch ++ items_at key g.epoch items o)) (sym r.found)
@@ -283,5 +284,5 @@ module _ (app : Application) (feeds : List Fed) (es : List Entry) (items : List 
       (subst (λ o. Fine (p ++ x ∷ []) o) (sym later) (fine_step p xs whole refl later old.0 new.0 (stepped app.cell_count key (flow_of app.cell_count key p) x old.1.0) k))
 
   -- the committed cells are those over the kept items of all epochs
-  pub committed_cells_are : (f : Flow) → flow_of app.cell_count key es ≡ Some f → f.cells ≡ cells_over app feeds (kept_front key es items rounds (suc f.epoch))
+  pub committed_cells_are : (f : FlowRecord) → flow_of app.cell_count key es ≡ Some f → f.cells ≡ cells_over app feeds (kept_front key es items rounds (suc f.epoch))
   committed_cells_are f flow = fine_all [] es refl (λ g is. let no_flow : None ≡ Some g = is in cc) f flow

@@ -9,8 +9,14 @@ use Rattle.proto_model.specs.WorldStep.{world_after}
 use Rattle.proto_safety.specs.Firsts.{firsts_of}
 use Rattle.proto_safety.specs.LeaseLaws.{First, AskOf, NumberOf, Leases}
 use Rattle.proto_safety.specs.Origins.{AskSent}
+use Rattle.proto_safety.specs.Flows.{FitsFrom}
+use Rattle.proto_safety.proofs.BookEpochLaws.{is_granted}
+use Rattle.proto_safety.proofs.BookEpochs.{granted_before}
+use Rattle.proto_data.specs.declared.message.Entry.{Entry}
+use Rattle.std.proofs.Common.{◌∷◌, ◌++◌, ◌+◌, None}
 use Rattle.proto_safety.proofs.CellsGround.{OverLate}
 use Rattle.proto_safety.proofs.FirstsInduction.{firsts_kept}
+use Rattle.proto_safety.proofs.Ground.{known_of}
 use Rattle.proto_safety.proofs.GroundsKept.{Standing, standing_kept}
 use Rattle.proto_safety.proofs.HandedKept.{Ending, ending_kept, opened_ending}
 use Rattle.proto_safety.proofs.Induction.{run_kept}
@@ -36,21 +42,23 @@ leases_now app w fs g h =
       grounded = λ n key node slot s. h.0.1 n node key slot s.at s.found;
       greatest = λ n inc nonce k key node slot f s has i of at request.
           greatest_ask w n inc nonce k key node g.0.0.1.0.1 s.at (record { slot = slot; found = s.found; nonce = has }) (ask_sent w f n inc nonce key of at request (h.0.0.sent f i));
-      handed = λ key epoch switch inc nonce next_switch next_inc next_nonce before o.
-          h.1.0 o.replica o.node o.at key epoch switch inc nonce next_switch next_inc next_nonce before o.behind o.book_is o.granted;
+      handed = λ key epoch switch inc nonce before some o.
+          let fits : FitsFrom app.cell_count key None (before ++ Entry.Grant key (epoch + 1) switch inc nonce ∷ o.behind) = subst (λ l. FitsFrom app.cell_count key None l) o.book_is ((known_of app.cell_count w g.0.0).fits o.replica o.node key o.at) in
+          let old = is_granted before key epoch (granted_before app.cell_count key before o.behind epoch switch inc nonce fits some) in
+          (old, h.1.0 o.replica o.node o.at key epoch old.switch old.inc old.nonce switch inc nonce before o.behind o.book_is old.there);
       over = ends.over;
       late = ends.late;
     }
 
 -- ---- every run
 
-module _ (app : Application) (setup : Setup) (hold : TermsHold setup.terms.t_switch setup.terms.t_store setup.terms.ratio) (some : 1 ≤ setup.terms.t_store) where
+module _ (app : Application) (setup : Setup) (hold : TermsHold setup.terms.t_switch setup.terms.t_store setup.terms.ratio) where
   start : Standing app (opened app.cell_count setup)
   start = opened_standing app setup
 
   -- what ends leases is kept with the first sendings of the run
   ending_after : (events : List Event) → Ending (firsts_of app setup events) (world_after app (opened app.cell_count setup) events)
-  ending_after events = firsts_kept app (Standing app) Ending (standing_kept app) (ending_kept app) events (opened app.cell_count setup) [] start (opened_ending app setup hold some)
+  ending_after events = firsts_kept app (Standing app) Ending (standing_kept app) (ending_kept app) events (opened app.cell_count setup) [] start (opened_ending app setup hold)
 
   pub leases_hold : (events : List Event) → Leases (firsts_of app setup events) (world_after app (opened app.cell_count setup) events)
   leases_hold events =

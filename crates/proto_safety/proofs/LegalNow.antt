@@ -10,15 +10,19 @@ use Rattle.rp_app.specs.Application.{Application, zeros}
 use Rattle.proto_model.specs.Table.{Key, Table, same_key, get}
 use Rattle.proto_model.specs.Feeds.{Each, Pairwise, fed_at, packet_at, key_at}
 use Rattle.proto_model.specs.Records.{Booked, Records, applied, put_applied, snap_applied}
-use Rattle.proto_model.specs.Committed.{Closing, closings, closing_of, epochs_of, epoch_granted, is_in, is_closed, committed_book, committed_records, serial, serial_marks}
+use Rattle.proto_model.specs.Committed.{committed_flow, committed_flows, closing_of, epochs_of, epoch_granted, is_in, is_closed, committed_book, committed_records, serial, serial_marks}
+use Rattle.rp_base.specs.declared.legality.Flow.{Flow}
 use Rattle.proto_model.specs.Stands.{entries_of}
 use Rattle.proto_model.specs.Legal.{IsLegal, IsOutputIn, StandsIn, ReleasedBefore, marks_of, marks_before, all_marks, folded}
-use Rattle.proto_model.specs.World.{World, Fed, Journaled, Released}
+use Rattle.proto_model.specs.World.{World, Journaled}
+use Rattle.rp_base.specs.declared.legality.Fed.{Fed}
+use Rattle.rp_base.specs.declared.legality.Released.{Released}
 use Rattle.proto_safety.specs.Books.{In, committed_of}
-use Rattle.proto_safety.specs.Flows.{Flow, FitsFrom, flow_in, flow_of}
+use Rattle.proto_safety.specs.Flows.{FlowRecord, FitsFrom, flow_in, flow_of}
 use Rattle.proto_safety.proofs.CellFacts.{closing_entries}
 use Rattle.proto_safety.proofs.CellsFed.{items_found}
 use Rattle.proto_safety.proofs.Chains.{each_in}
+use Rattle.proto_safety.proofs.FedMarks.{fed_found}
 use Rattle.proto_safety.proofs.FlowBooks.{book_flow}
 use Rattle.proto_safety.proofs.FlowCells.{CellsOf, ItemsKnown}
 use Rattle.proto_safety.proofs.ReleasesStep.{Shown, keyless, of_item}
@@ -28,7 +32,7 @@ use Rattle.proto_safety.proofs.TableKeys.{KeysDiffer, differ_put, member_found}
 use Rattle.proto_safety.proofs.Tables.{same_key-refl, same_key-true}
 use Rattle.proto_safety.proofs.WorldOrder.{Placed, Ordered, unkeyed, placed, OrderIn}
 use Rattle.proto_safety.proofs.WorldShown.{ShownIn}
-use Rattle.proto_safety.proofs.Lists.{each_all}
+use Rattle.proto_safety.proofs.Lists.{among_in, each_all}
 use Rattle.proto_safety.proofs.BookEpochs.{in_middle}
 
 -- ---- lists
@@ -96,15 +100,6 @@ before_marks (x ∷ pre) post j m is once =
     not_same true e = absurd (each_in (OtherItem x) (pre ++ j ∷ post) j once.0 (in_middle pre post j) (eqb-true x.item.mark m e ∙ sym is))
     not_same false e = refl
 
--- what fed_at finds
-pub fed_found : (feeds : List Fed) (m : ℕ) (f : Fed) → fed_at feeds m ≡ Some f → In feeds f × (f.packet.mark ≡ m)
-fed_found [] m f at = cc
-fed_found (g ∷ gs) m f at = found_case (g.packet.mark == m) refl at (fed_found gs m f)
-  where
-    found_case : (b : Bool) → (g.packet.mark == m) ≡ b → (if b then Some g else fed_at gs m) ≡ Some f → (fed_at gs m ≡ Some f → In gs f × (f.packet.mark ≡ m)) → In (g ∷ gs) f × (f.packet.mark ≡ m)
-    found_case true is at rest = let e : g ≡ f = cc in (inl e, subst (λ (x : Fed). x.packet.mark ≡ m) e (eqb-true g.packet.mark m is))
-    found_case false is at rest = let r = rest at in (inr r.0, r.1)
-
 -- ---- the serial lists of books
 
 pub epochs_same : (key : Key) (book : List Booked) → epochs_of key book ≡ epochs_in key (entries_of book)
@@ -141,22 +136,14 @@ records_differ n (b ∷ bs) records h = records_differ n bs (applied n records b
     applied_differ records (Entry.Snap key epoch round values) now h = snap_differ records key round values now (get records key) h
 
 -- the marks of a key with a record
-marks_found : (f : Key → List ℕ) (t : Table Record) (key : Key) (r : Record) → get t key ≡ Some r → marks_of (map (λ (e : Key × Record). (e.0, f e.0, e.1.cells)) t) key ≡ f key
+marks_found : (f : Key → List ℕ) (t : Table Record) (key : Key) (r : Record) → get t key ≡ Some r → marks_of (map (λ (e : Key × Record). record { key = e.0; marks = f e.0; cells = e.1.cells }) t) key ≡ f key
 marks_found f [] key r at = cc
 marks_found f (e ∷ es) key r at = found_case (same_key e.0 key) refl at (marks_found f es key r)
   where
-    found_case : (b : Bool) → same_key e.0 key ≡ b → (if b then Some e.1 else get es key) ≡ Some r → (get es key ≡ Some r → marks_of (map (λ (x : Key × Record). (x.0, f x.0, x.1.cells)) es) key ≡ f key) →
-        unwrap_or (option_map (λ (c : Closing). c.1) (if b then Some (e.0, f e.0, e.1.cells) else find (λ (c : Closing). same_key c.0 key) (map (λ (x : Key × Record). (x.0, f x.0, x.1.cells)) es))) [] ≡ f key
+    found_case : (b : Bool) → same_key e.0 key ≡ b → (if b then Some e.1 else get es key) ≡ Some r → (get es key ≡ Some r → marks_of (map (λ (x : Key × Record). record { key = x.0; marks = f x.0; cells = x.1.cells }) es) key ≡ f key) →
+        unwrap_or (option_map (λ (c : Flow). c.marks) (if b then Some (record { key = e.0; marks = f e.0; cells = e.1.cells }) else find (λ (c : Flow). same_key c.key key) (map (λ (x : Key × Record). record { key = x.0; marks = f x.0; cells = x.1.cells }) es))) [] ≡ f key
     found_case true is at rest = ap f (same_key-true e.0 key is)
     found_case false is at rest = rest at
-
-pub among_in : {A : Type 0} (vs : List A) (v : A) → IsAmong vs v → In vs v
-among_in vs v a = at_place vs v a.0 a.1.0 a.1.1
-  where
-    at_place : {A : Type 0} (vs : List A) (v : A) (i : ℕ) → i < length vs → v ≡ slice_index_or vs i v → In vs v
-    at_place [] v i lt e = absurd (omega arith)
-    at_place (x ∷ xs) v zero lt e = inl (sym e)
-    at_place (x ∷ xs) v (suc i) lt e = inr (at_place xs v i (omega arith) e)
 
 -- ---- the world
 
@@ -169,6 +156,7 @@ pub record LegalFacts (app : Application) (w : World) : Type 0 where
   pub released_once : Pairwise (λ (a b : Released). a.output.mark ≢ b.output.mark) w.history.released
   pub shown : ShownIn app w
   pub order : OrderIn app w
+  pub none_early : (m : ℕ) → ¬ ReleasedBefore w.history.fed w.history.released m m
 
 module _ (app : Application) (w : World) (f : LegalFacts app w) where
   abbrev es : List Entry
@@ -186,8 +174,8 @@ module _ (app : Application) (w : World) (f : LegalFacts app w) where
   abbrev mark : Journaled → ℕ
   mark j = j.item.mark
 
-  abbrev flows : List Closing
-  flows = closings app.cell_count w
+  abbrev flows : List Flow
+  flows = committed_flows app.cell_count w
 
   marks_same : (key : Key) → serial_marks w key ≡ map mark (serial_in key es items)
   marks_same key = ap (λ l. map mark l) (serial_same w key)
@@ -205,10 +193,10 @@ module _ (app : Application) (w : World) (f : LegalFacts app w) where
   record_flow key = book_flow app.cell_count key (committed_book w) []
 
   -- of the flows with a record
-  flow_each : (P : Closing → Type 0) → ((key : Key) (r : Record) → get (committed_records app.cell_count w) key ≡ Some r → P (key, serial_marks w key, r.cells)) → Each P flows
+  flow_each : (P : Flow → Type 0) → ((key : Key) (r : Record) → get (committed_records app.cell_count w) key ≡ Some r → P (committed_flow w (key, r))) → Each P flows
   flow_each P h =
-      each_mapped P (λ (e : Key × Record). (e.0, serial_marks w e.0, e.1.cells)) (committed_records app.cell_count w)
-      (each_all (λ (e : Key × Record). P (e.0, serial_marks w e.0, e.1.cells)) (committed_records app.cell_count w)
+      each_mapped P (committed_flow w) (committed_records app.cell_count w)
+      (each_all (λ (e : Key × Record). P (committed_flow w e)) (committed_records app.cell_count w)
       (λ e i. h e.0 e.1 (member_found (committed_records app.cell_count w) e (records_differ app.cell_count (committed_book w) [] tt) i)))
 
   -- the cells of a record
@@ -229,7 +217,7 @@ module _ (app : Application) (w : World) (f : LegalFacts app w) where
       let g = (f.known key).granted j s.0 s.1 in
       record_case g.0 g.1.0 (get (committed_records app.cell_count w) key) refl
     where
-      record_case : (g : Flow) → flow_of app.cell_count key es ≡ Some g → (o : Option Record) → get (committed_records app.cell_count w) key ≡ o → marks_of flows key ≡ map mark (serial_in key es items)
+      record_case : (g : FlowRecord) → flow_of app.cell_count key es ≡ Some g → (o : Option Record) → get (committed_records app.cell_count w) key ≡ o → marks_of flows key ≡ map mark (serial_in key es items)
       record_case g is None at = let no : None ≡ Some g = ap (λ o. option_map flow_in o) (sym at) ∙ (record_flow key ∙ is) in cc
       record_case g is (Some r) at = marks_found (serial_marks w) (committed_records app.cell_count w) key r at ∙ marks_same key
 
@@ -301,33 +289,34 @@ module _ (app : Application) (w : World) (f : LegalFacts app w) where
 
   each_mark_once : Pairwise (λ a b. a ≢ b) (all_marks flows)
   each_mark_once =
-      pairwise_flat (λ (a b : Closing). (a.0 ≢ b.0) × (In flows a × In flows b)) (λ (a b : ℕ). a ≢ b) (λ (c : Closing). c.1) flows
-      (pairwise_with (λ (a b : Closing). a.0 ≢ b.0) (λ (a b : Closing). (a.0 ≢ b.0) × (In flows a × In flows b)) flows
-      (pairwise_mapped (λ (a b : Closing). a.0 ≢ b.0) (λ (e : Key × Record). (e.0, serial_marks w e.0, e.1.cells)) (committed_records app.cell_count w) (records_differ app.cell_count (committed_book w) [] tt))
+      pairwise_flat (λ (a b : Flow). (a.key ≢ b.key) × (In flows a × In flows b)) (λ (a b : ℕ). a ≢ b) (λ (c : Flow). c.marks) flows
+      (pairwise_with (λ (a b : Flow). a.key ≢ b.key) (λ (a b : Flow). (a.key ≢ b.key) × (In flows a × In flows b)) flows
+      (pairwise_mapped (λ (a b : Flow). a.key ≢ b.key) (committed_flow w) (committed_records app.cell_count w) (records_differ app.cell_count (committed_book w) [] tt))
       (λ a b i j ne. (ne, (i, j))))
-      (λ c i. each_in (λ (c : Closing). Pairwise (λ a b. a ≢ b) c.1) flows c once_each i)
+      (λ c i. each_in (λ (c : Flow). Pairwise (λ a b. a ≢ b) c.marks) flows c once_each i)
       (λ c d a b s i j same.
-      let x : key_at app fed a ≡ Some c.0 = each_in (λ m. key_at app fed m ≡ Some c.0) c.1 a (each_in (λ (c : Closing). Each (λ m. key_at app fed m ≡ Some c.0) c.1) flows c keyed_each s.1.0) i in
-      let y : key_at app fed b ≡ Some d.0 = each_in (λ m. key_at app fed m ≡ Some d.0) d.1 b (each_in (λ (c : Closing). Each (λ m. key_at app fed m ≡ Some c.0) c.1) flows d keyed_each s.1.1) j in
-      let z : Some c.0 ≡ Some d.0 = sym x ∙ (ap (λ m. key_at app fed m) same ∙ y) in
-      let e : c.0 ≡ d.0 = cc in s.0 e)
+      let x : key_at app fed a ≡ Some c.key = each_in (λ m. key_at app fed m ≡ Some c.key) c.marks a (each_in (λ (c : Flow). Each (λ m. key_at app fed m ≡ Some c.key) c.marks) flows c keyed_each s.1.0) i in
+      let y : key_at app fed b ≡ Some d.key = each_in (λ m. key_at app fed m ≡ Some d.key) d.marks b (each_in (λ (c : Flow). Each (λ m. key_at app fed m ≡ Some c.key) c.marks) flows d keyed_each s.1.1) j in
+      let z : Some c.key ≡ Some d.key = sym x ∙ (ap (λ m. key_at app fed m) same ∙ y) in
+      let e : c.key ≡ d.key = cc in s.0 e)
     where
-      keyed_each : Each (λ (c : Closing). Each (λ m. key_at app fed m ≡ Some c.0) c.1) flows
-      keyed_each = flow_each (λ (c : Closing). Each (λ m. key_at app fed m ≡ Some c.0) c.1) (λ key r at. with_key key)
+      keyed_each : Each (λ (c : Flow). Each (λ m. key_at app fed m ≡ Some c.key) c.marks) flows
+      keyed_each = flow_each (λ (c : Flow). Each (λ m. key_at app fed m ≡ Some c.key) c.marks) (λ key r at. with_key key)
 
-      once_each : Each (λ (c : Closing). Pairwise (λ a b. a ≢ b) c.1) flows
+      once_each : Each (λ (c : Flow). Pairwise (λ a b. a ≢ b) c.marks) flows
       once_each =
-          flow_each (λ (c : Closing). Pairwise (λ a b. a ≢ b) c.1)
+          flow_each (λ (c : Flow). Pairwise (λ a b. a ≢ b) c.marks)
           (λ key r at. subst (λ l. Pairwise (λ a b. a ≢ b) l) (sym (marks_same key)) (pairwise_mapped (λ a b. a ≢ b) mark (serial_in key es items) (once_in key)))
 
   pub legal_now : IsLegal app w
   legal_now =
       record {
-        fed_with_key = flow_each (λ (c : Closing). Each (λ m. key_at app fed m ≡ Some c.0) c.1) (λ key r at. with_key key);
+        fed_with_key = flow_each (λ (c : Flow). Each (λ m. key_at app fed m ≡ Some c.key) c.marks) (λ key r at. with_key key);
         each_once = each_mark_once;
         released_from_list = each_all (λ (r : Released). (key : Key) → key_at app fed r.output.mark ≡ Some key → StandsIn (marks_of flows key) r.output.mark × IsOutputIn app fed (folded app fed (marks_before (marks_of flows key) r.output.mark)) r.output) released (λ r i key is. from_list r key is (f.shown.at r i));
         released_once = f.released_once;
-        in_order = flow_each (λ (c : Closing). Pairwise (λ q m. ¬ ReleasedBefore fed released m q) c.1) (λ key r at. order_in key);
-        cells_folded = flow_each (λ (c : Closing). c.2 ≡ folded app fed c.1) (λ key r at. cells_are key r at);
+        in_order = flow_each (λ (c : Flow). Pairwise (λ q m. ¬ ReleasedBefore fed released m q) c.marks) (λ key r at. order_in key);
+        none_early = each_all (λ (c : Flow). Each (λ m. ¬ ReleasedBefore fed released m m) c.marks) flows (λ c i. each_all (λ m. ¬ ReleasedBefore fed released m m) c.marks (λ m j. f.none_early m));
+        cells_folded = flow_each (λ (c : Flow). c.cells ≡ folded app fed c.marks) (λ key r at. cells_are key r at);
         released_without_key = each_all (λ (r : Released). key_at app fed r.output.mark ≡ None → IsOutputIn app fed (zeros app.cell_count) r.output) released (λ r i is. without_key r is (f.shown.at r i));
       }

@@ -3,7 +3,8 @@ use Rattle.std.proofs.Common.{◌≡◌, ◌≢◌, ℕ, List, [], ◌∷◌, �
 use Rattle.rp_base.specs.declared.event.Event.{Event}
 use Rattle.rp_app.specs.Application.{Application, IsApplication}
 use Rattle.proto_model.specs.Legal.{IsLegal}
-use Rattle.proto_model.specs.World.{World, Setup, SwitchNode, Journaled, Released, opened, open_replica_node, below}
+use Rattle.proto_model.specs.World.{World, Setup, SwitchNode, Journaled, opened, open_replica_node, below}
+use Rattle.rp_base.specs.declared.legality.Released.{Released}
 use Rattle.proto_model.specs.Committed.{last_running_book, serial_marks}
 use Rattle.std.proofs.lemmas.List.{map-append}
 use Rattle.proto_safety.specs.CellLaws.{SerialStays}
@@ -29,7 +30,8 @@ use Rattle.proto_safety.proofs.FirstsInduction.{KeepsFirsts}
 use Rattle.proto_safety.proofs.FlowCellCount.{AllCounted, counted_kept, all_counted}
 use Rattle.proto_safety.proofs.Induction.{Keeps, KeepsGiven, keeps_all, keeps_both, run_kept}
 use Rattle.proto_safety.proofs.LegalNow.{legal_now, pairwise_unmapped, serial_same}
-use Rattle.proto_safety.proofs.WorldMarks.{MarksOf, marks_hold}
+use Rattle.proto_safety.proofs.ReleasedLate.{Late, none_early_in}
+use Rattle.proto_safety.proofs.WorldMarks.{MarksOf}
 use Rattle.proto_safety.proofs.WorldCells.{Cells, cells_kept}
 use Rattle.proto_safety.proofs.WorldFlows.{Replied, replied_kept, flows_rest}
 use Rattle.proto_safety.proofs.WorldBooks.{books_hold}
@@ -208,8 +210,8 @@ module _ (app : Application) (is : IsApplication app) (E : World → Type 0) (e 
           )
 
   -- of one world
-  pub legal_at : (w : World) → Lawful w → MarksOf w → IsLegal app w
-  legal_at w h marks =
+  pub legal_at : (w : World) → Lawful w → MarksOf w → Late w → IsLegal app w
+  legal_at w h marks l =
       let f = facts w h.0.0.0 in
       legal_now app w
       (record {
@@ -220,16 +222,5 @@ module _ (app : Application) (is : IsApplication app) (E : World → Type 0) (e 
         released_once = pairwise_unmapped (λ a b. a ≢ b) (λ (r : Released). r.output.mark) w.history.released marks.released_once;
         shown = h.0.1;
         order = h.1;
+        none_early = none_early_in w l;
       })
-
-  pub legal : (setup : Setup) (events : List Event) → Ended (opened app.cell_count setup) → IsLegal app (world_after app (opened app.cell_count setup) events)
-  legal setup events start =
-      legal_at (world_after app (opened app.cell_count setup) events)
-      (run_kept app Lawful lawful_kept events (opened app.cell_count setup) (((start, opened_cells app setup), opened_shown app setup), opened_order app setup))
-      (marks_hold app is setup events)
-
--- from what is kept of the first sendings: a history is legal if the leases' ends follow
-pub legal_by : (app : Application) → IsApplication app → (J : List First → World → Type 0) → KeepsFirsts app (Standing app) J → ((w : World) (fs : List First) → Laid app w → J fs w → OverLate w) → (setup : Setup) → setup.terms.mode ≡ Mode.Strict →
-    (fs : List First) → J fs (opened app.cell_count setup) → (events : List Event) → IsLegal app (world_after app (opened app.cell_count setup) events)
-legal_by app is J k ends setup strict fs start events =
-    legal app is (λ w. (fs : List First) × J fs w) (some_firsts app (Laid app) J (firsts_given app (Laid app) (Standing app) J (laid_stands app) k)) (λ w l h. ends w h.0 l h.1) setup events (opened_laid app setup strict, (fs, start))

@@ -127,10 +127,11 @@ pub mod LegalNow
 pub mod LegalRun
 pub mod ReleasedLate
 pub mod ReportLegal
+pub mod RunLines
 pub mod RulesOneByOne
 pub mod EpochsCount
 pub mod LinkedKept
-pub mod LinkedLegal
+pub mod RunsAreLegal
 pub mod LinkedTold
 pub mod LinkedRefusals
 pub mod SerialOnce

@@ -18,18 +18,21 @@ use Rattle.proto_model.specs.SwitchState.{SwitchDid}
 use Rattle.proto_model.specs.ReplicaState.{StoreDid}
 use Rattle.proto_model.specs.SwitchRows.{switch_step}
 use Rattle.proto_model.specs.ReplicaRows.{store_step}
-use Rattle.proto_model.specs.World.{World, SwitchNode, ReplicaNode, Fed, Released, believed_switches, running_replicas}
+use Rattle.proto_model.specs.World.{World, SwitchNode, ReplicaNode, believed_switches, running_replicas}
+use Rattle.rp_base.specs.declared.legality.Fed.{Fed}
+use Rattle.rp_base.specs.declared.legality.Released.{Released}
 use Rattle.proto_model.specs.Feeds.{Each}
 use Rattle.proto_model.specs.Lines.{Line, Release, Dropped, LostLine, Refused, Stranger, Send, Serial, Epoch, CellsLine, End, send_lines}
 use Rattle.proto_model.specs.Effects.{added, packet_fed, frame_passed, release_line, switch_lines, store_lines}
-use Rattle.proto_model.specs.WorldStep.{WorldStep, Act, Refuses, Feeds, Delivers, Passes, Advances, Alarms, Stops, Boots, Detects, Announces, Pumps, act_of, perform_act, node_takes, switch_takes, replica_takes, refuses_if, feed_picked, packet_at, deliver_act, next_act, numbered_frame, next_from, is_replica, runs_now, believed_up, frames_full, rates_hold, padded, announcements, next_event, world_step, world_after, run_on}
+use Rattle.proto_model.specs.WorldStep.{WorldStep, Act, Refuses, Feeds, Delivers, Passes, Advances, Alarms, Stops, Boots, Detects, Announces, Pumps, act_of, perform_act, node_takes, switch_takes, replica_takes, refuses_if, feed_picked, event_packet, deliver_act, next_act, numbered_frame, next_from, is_replica, runs_now, believed_up, frames_full, rates_hold, padded, announcements, next_event, world_step, world_after, run_on}
 use Rattle.proto_safety.specs.Books.{In}
-use Rattle.proto_safety.specs.LegalLines.{refuses, is_refused, feed_of, feeds_from, release_in, releases_in, is_release, line_of, flow_at, flows_in}
+use Rattle.proto_safety.specs.LegalLines.{feed_of, feeds_from}
 use Rattle.proto_safety.proofs.Chains.{each_in}
 use Rattle.proto_safety.proofs.FlowAlarm.{in_append, to_append}
 use Rattle.proto_safety.proofs.FlowBooks.{in_front}
 use Rattle.proto_safety.proofs.EventCounts.{event_counts}
 use Rattle.proto_safety.proofs.Lists.{each_append}
+use Rattle.proto_safety.proofs.RunLines.{refusal_said, refused_said, release_said, releases_said, flow_said, flows_said, feeds_same}
 
 -- the world of a run is that after its events
 pub run_world : (app : Application) (w : World) (es : List Event) → (run_on app w es).0 ≡ world_after app w es
@@ -38,43 +41,43 @@ run_world app w (e ∷ es) = run_world app (world_step app w e).0 es
 
 -- ---- releases
 
-pub releases_append : (xs ys : List Line) → releases_in (xs ++ ys) ≡ releases_in xs ++ releases_in ys
+pub releases_append : (xs ys : List Line) → releases_said (xs ++ ys) ≡ releases_said xs ++ releases_said ys
 releases_append [] ys = refl
-releases_append (x ∷ xs) ys = ap (λ l. release_in x ++ l) (releases_append xs ys) ∙ sym (append_assoc (release_in x) (releases_in xs) (releases_in ys))
+releases_append (x ∷ xs) ys = ap (λ l. release_said x ++ l) (releases_append xs ys) ∙ sym (append_assoc (release_said x) (releases_said xs) (releases_said ys))
 
-send_releases : (event frame : ℕ) (ms : List Msg) → releases_in (send_lines event frame ms) ≡ []
+send_releases : (event frame : ℕ) (ms : List Msg) → releases_said (send_lines event frame ms) ≡ []
 send_releases event frame [] = refl
 send_releases event frame (m ∷ ms) = send_releases event (frame + 1) ms
 
-lost_releases : (event : ℕ) (o : Option Lost) (rest : List Line) → releases_in (added (LostLine event) o ++ rest) ≡ releases_in rest
+lost_releases : (event : ℕ) (o : Option Lost) (rest : List Line) → releases_said (added (LostLine event) o ++ rest) ≡ releases_said rest
 lost_releases event None rest = refl
 lost_releases event (Some l) rest = refl
 
-dropped_releases : (event : ℕ) (o : Option (ℕ × DropCause)) (rest : List Line) → releases_in (added (λ (d : ℕ × DropCause). Dropped event d.0 d.1) o ++ rest) ≡ releases_in rest
+dropped_releases : (event : ℕ) (o : Option (ℕ × DropCause)) (rest : List Line) → releases_said (added (λ (d : ℕ × DropCause). Dropped event d.0 d.1) o ++ rest) ≡ releases_said rest
 dropped_releases event None rest = refl
 dropped_releases event (Some d) rest = refl
 
 abbrev released_of : ℕ → Option Output → List Released
 released_of event o = added (λ (o : Output). record { event = event; output = o }) o
 
-released_releases : (event : ℕ) (o : Option Output) (rest : List Line) → releases_in (added (release_line event) o ++ rest) ≡ released_of event o ++ releases_in rest
+released_releases : (event : ℕ) (o : Option Output) (rest : List Line) → releases_said (added (release_line event) o ++ rest) ≡ released_of event o ++ releases_said rest
 released_releases event None rest = refl
 released_releases event (Some o) rest = refl
 
-switch_releases : (event frame : ℕ) (did : SwitchDid) → releases_in (switch_lines event frame did) ≡ released_of event did.released
+switch_releases : (event frame : ℕ) (did : SwitchDid) → releases_said (switch_lines event frame did) ≡ released_of event did.released
 switch_releases event frame did =
     released_releases event did.released _
     ∙ (ap (λ l. released_of event did.released ++ l) (dropped_releases event did.dropped _ ∙ (lost_releases event did.lost _ ∙ send_releases event frame did.sent))
     ∙ append-nil _)
 
-store_releases : (event frame : ℕ) (did : StoreDid) → releases_in (store_lines event frame did) ≡ []
+store_releases : (event frame : ℕ) (did : StoreDid) → releases_said (store_lines event frame did) ≡ []
 store_releases event frame did = lost_releases event did.lost _ ∙ send_releases event frame did.sent
 
 -- what a step released, its lines say
 abbrev pub Releases : World → WorldStep → Type 0
-Releases w step = step.0.history.released ≡ w.history.released ++ releases_in step.1
+Releases w step = step.0.history.released ≡ w.history.released ++ releases_said step.1
 
-none_released : (xs : List Released) (ls : List Line) → releases_in ls ≡ [] → xs ≡ xs ++ releases_in ls
+none_released : (xs : List Released) (ls : List Line) → releases_said ls ≡ [] → xs ≡ xs ++ releases_said ls
 none_released xs ls is = sym (append-nil xs) ∙ ap (λ l. xs ++ l) (sym is)
 
 switch_told : (app : Application) (w : World) (n : ℕ) (input : Input) (o : Option SwitchNode) → Releases w (switch_takes app w n input o)
@@ -108,33 +111,33 @@ act_told app w Announces = none_released w.history.released (send_lines w.event 
 act_told app w Pumps = sym (append-nil w.history.released)
 
 -- the release lines of events are what they released
-pub releases_told : (app : Application) (w : World) (es : List Event) → (run_on app w es).0.history.released ≡ w.history.released ++ releases_in (run_on app w es).1
+pub releases_told : (app : Application) (w : World) (es : List Event) → (run_on app w es).0.history.released ≡ w.history.released ++ releases_said (run_on app w es).1
 releases_told app w [] = sym (append-nil w.history.released)
 releases_told app w (e ∷ es) =
-    let first : (world_step app w e).0.history.released ≡ w.history.released ++ releases_in (world_step app w e).1 = act_told app (next_event w) (act_of app (next_event w) e) in
+    let first : (world_step app w e).0.history.released ≡ w.history.released ++ releases_said (world_step app w e).1 = act_told app (next_event w) (act_of app (next_event w) e) in
     let later = (run_on app (world_step app w e).0 es).1 in
     releases_told app (world_step app w e).0 es
-    ∙ (ap (λ l. l ++ releases_in later) first
-    ∙ (append_assoc w.history.released (releases_in (world_step app w e).1) (releases_in later)
+    ∙ (ap (λ l. l ++ releases_said later) first
+    ∙ (append_assoc w.history.released (releases_said (world_step app w e).1) (releases_said later)
     ∙ ap (λ l. w.history.released ++ l) (sym (releases_append (world_step app w e).1 later))))
 
 -- ---- lines that aren't of a kind
 
--- a line that refuses nothing
+-- a line that refusal_said nothing
 abbrev pub NoRefusal : Line → Type 0
-NoRefusal l = (n : ℕ) → refuses n l ≡ false
+NoRefusal l = (n : ℕ) → refusal_said n l ≡ false
 
-pub none_refused : (ls : List Line) (n : ℕ) → Each NoRefusal ls → is_refused ls n ≡ false
+pub none_refused : (ls : List Line) (n : ℕ) → Each NoRefusal ls → refused_said ls n ≡ false
 none_refused [] n h = refl
 none_refused (l ∷ ls) n h = rw (h.0 n) (none_refused ls n h.1)
 
 -- a line that is no flow's serial line
 abbrev pub NoSerial : Line → Type 0
-NoSerial l = (behind : List Line) → flow_at l behind ≡ []
+NoSerial l = (behind : List Line) → flow_said l behind ≡ []
 
-pub no_flows : (xs ys : List Line) → Each NoSerial xs → flows_in (xs ++ ys) ≡ flows_in ys
+pub no_flows : (xs ys : List Line) → Each NoSerial xs → flows_said (xs ++ ys) ≡ flows_said ys
 no_flows [] ys h = refl
-no_flows (x ∷ xs) ys h = ap (λ l. l ++ flows_in (xs ++ ys)) (h.0 (xs ++ ys)) ∙ no_flows xs ys h.1
+no_flows (x ∷ xs) ys h = ap (λ l. l ++ flows_said (xs ++ ys)) (h.0 (xs ++ ys)) ∙ no_flows xs ys h.1
 
 module _ (P : Line → Type 0) (release : (event mark port : ℕ) (bytes : List ℕ) → P (Release event mark port bytes)) (dropped : (event mark : ℕ) (cause : DropCause) → P (Dropped event mark cause)) (lost : (event : ℕ) (cause : Lost) → P (LostLine event cause)) (send : (event frame : ℕ) (m : Msg) → Each P (send_lines event frame (m ∷ []))) where
   each_send : (event frame : ℕ) (ms : List Msg) → Each P (send_lines event frame ms)
@@ -204,26 +207,26 @@ not_same a b ne = same_case (a == b) refl
     same_case true is = absurd (ne (eqb-true a b is))
     same_case false is = refl
 
--- an act that isn't a refusal refuses no event
+-- an act that isn't a refusal refusal_said no event
 pub act_no_refusal : (app : Application) (w : World) (act : Act) → is_refusal act ≡ false → Each NoRefusal (perform_act app w act).1
 act_no_refusal app w act is =
     each_act NoRefusal (λ event mark port bytes n. refl) (λ event mark cause n. refl) (λ event cause n. refl) (λ event frame m. (λ n. refl, tt)) app w act
     (λ cause same n. let no : true ≡ false = ap is_refusal (sym same) ∙ is in absurd cc)
 
 -- an event's lines refuse no other event
-pub act_no_other : (app : Application) (w : World) (act : Act) (n : ℕ) → (w.event ≡ n → ⊥) → is_refused (perform_act app w act).1 n ≡ false
+pub act_no_other : (app : Application) (w : World) (act : Act) (n : ℕ) → (w.event ≡ n → ⊥) → refused_said (perform_act app w act).1 n ≡ false
 act_no_other app w act n ne =
-    none_at (perform_act app w act).1 (each_act (λ l. refuses n l ≡ false) (λ event mark port bytes. refl) (λ event mark cause. refl) (λ event cause. refl) (λ event frame m. (refl, tt)) app w act (λ cause is. not_same w.event n ne))
+    none_at (perform_act app w act).1 (each_act (λ l. refusal_said n l ≡ false) (λ event mark port bytes. refl) (λ event mark cause. refl) (λ event cause. refl) (λ event frame m. (refl, tt)) app w act (λ cause is. not_same w.event n ne))
   where
-    none_at : (ls : List Line) → Each (λ l. refuses n l ≡ false) ls → is_refused ls n ≡ false
+    none_at : (ls : List Line) → Each (λ l. refusal_said n l ≡ false) ls → refused_said ls n ≡ false
     none_at [] h = refl
     none_at (l ∷ ls) h = rw (h.0) (none_at ls h.1)
 
 -- an event's lines refuse it where its act is a refusal
-pub act_refused : (app : Application) (w : World) (act : Act) → is_refused (perform_act app w act).1 w.event ≡ is_refusal act
+pub act_refused : (app : Application) (w : World) (act : Act) → refused_said (perform_act app w act).1 w.event ≡ is_refusal act
 act_refused app w act = refusal_case (is_refusal act) refl
   where
-    refused : (act : Act) → is_refusal act ≡ true → is_refused (perform_act app w act).1 w.event ≡ true
+    refused : (act : Act) → is_refusal act ≡ true → refused_said (perform_act app w act).1 w.event ≡ true
     refused (Refuses cause) is = rw (eq-eqb w.event w.event refl) refl
     refused (Feeds n p) is = absurd cc
     refused (Delivers i m) is = absurd cc
@@ -236,17 +239,17 @@ act_refused app w act = refusal_case (is_refusal act) refl
     refused Announces is = absurd cc
     refused Pumps is = absurd cc
 
-    refusal_case : (b : Bool) → is_refusal act ≡ b → is_refused (perform_act app w act).1 w.event ≡ b
+    refusal_case : (b : Bool) → is_refusal act ≡ b → refused_said (perform_act app w act).1 w.event ≡ b
     refusal_case true is = refused act is
     refusal_case false is = none_refused (perform_act app w act).1 w.event (act_no_refusal app w act is)
 
 -- no event up to the present one is refused later
-run_no_earlier : (app : Application) (w : World) (es : List Event) (n : ℕ) → n ≤ w.event → is_refused (run_on app w es).1 n ≡ false
+run_no_earlier : (app : Application) (w : World) (es : List Event) (n : ℕ) → n ≤ w.event → refused_said (run_on app w es).1 n ≡ false
 run_no_earlier app w [] n le = refl
 run_no_earlier app w (e ∷ es) n le =
-    let now : is_refused (world_step app w e).1 n ≡ false = act_no_other app (next_event w) (act_of app (next_event w) e) n (λ same. omega (arith, le, same)) in
-    let later : is_refused (run_on app (world_step app w e).0 es).1 n ≡ false = run_no_earlier app (world_step app w e).0 es n (omega (arith, le, event_counts app w e)) in
-    list_any-append (refuses n) (world_step app w e).1 (run_on app (world_step app w e).0 es).1 ∙ rw (now, later) refl
+    let now : refused_said (world_step app w e).1 n ≡ false = act_no_other app (next_event w) (act_of app (next_event w) e) n (λ same. omega (arith, le, same)) in
+    let later : refused_said (run_on app (world_step app w e).0 es).1 n ≡ false = run_no_earlier app (world_step app w e).0 es n (omega (arith, le, event_counts app w e)) in
+    list_any-append (refusal_said n) (world_step app w e).1 (run_on app (world_step app w e).0 es).1 ∙ rw (now, later) refl
 
 -- ---- feeds
 
@@ -266,7 +269,7 @@ next_none : (event : ℕ) (o : Option (ℕ × Msg)) → fed_by event (next_act o
 next_none event None = refl
 next_none event (Some f) = refl
 
--- an act feeds this packet, or refuses to
+-- an act feeds this packet, or refusal_said to
 abbrev FeedsOr : ℕ → Packet → Act → Type 0
 FeedsOr event p act = fed_by event act ≡ (if is_refusal act then [] else record { event = event; packet = p } ∷ [])
 
@@ -281,9 +284,9 @@ picked_feeds w p (Some n) = feed_if w.event p (not (runs_now w (Node.Switch n)))
 -- what an act feeds is what its event feeds, unless it is refused
 pub event_feeds : (app : Application) (w : World) (e : Event) → fed_by w.event (act_of app w e) ≡ feed_of (is_refusal (act_of app w e)) w.event e
 event_feeds app w (Event.Feed port bytes) =
-    feed_if w.event (packet_at w port bytes) (frames_full w) Refusal.FramesFull _ (picked_feeds w (packet_at w port bytes) (picked (believed_switches w) (app.key_of (packet_at w port bytes))))
+    feed_if w.event (event_packet w port bytes) (frames_full w) Refusal.FramesFull _ (picked_feeds w (event_packet w port bytes) (picked (believed_switches w) (app.key_of (event_packet w port bytes))))
 event_feeds app w (Event.FeedAt n port bytes) =
-    feed_if w.event (packet_at w port bytes) (frames_full w) Refusal.FramesFull _ (feed_if w.event (packet_at w port bytes) (not (runs_now w (Node.Switch n))) Refusal.Dead (Feeds n (packet_at w port bytes)) refl)
+    feed_if w.event (event_packet w port bytes) (frames_full w) Refusal.FramesFull _ (feed_if w.event (event_packet w port bytes) (not (runs_now w (Node.Switch n))) Refusal.Dead (Feeds n (event_packet w port bytes)) refl)
 event_feeds app w (Event.Deliver i) = none_if w.event (frames_full w) Refusal.FramesFull _ (none_if w.event w.linked Refusal.Linked _ (deliver_none w w.event (numbered_frame w i)))
 event_feeds app w Event.Next = none_if w.event (frames_full w) Refusal.FramesFull _ (none_if w.event w.linked Refusal.Linked _ (next_none w.event (next_from w 0 w.frames)))
 event_feeds app w (Event.Drop i) = none_if w.event w.linked Refusal.Linked _ (none_if w.event (not (nat_lt i (length w.frames))) Refusal.NoFrame (Passes i) refl)
@@ -329,37 +332,30 @@ act_fed app w (Detects Node.Master) = sym (append-nil w.history.fed)
 act_fed app w Announces = sym (append-nil w.history.fed)
 act_fed app w Pumps = sym (append-nil w.history.fed)
 
--- tests that agree from a number on give the same feeds
-pub feeds_same : (f g : ℕ → Bool) (n : ℕ) (es : List Event) → ((k : ℕ) → n ≤ k → f k ≡ g k) → feeds_from f n es ≡ feeds_from g n es
-feeds_same f g n [] h = refl
-feeds_same f g n (e ∷ es) h =
-    ap (λ b. feed_of b n e ++ feeds_from f (n + 1) es) (h n (omega arith))
-    ∙ ap (λ l. feed_of (g n) n e ++ l) (feeds_same f g (n + 1) es (λ k le. h k (omega (arith, le))))
-
--- what was fed is what the events feed that no line refuses
-pub feeds_told : (app : Application) (w : World) (es : List Event) → (run_on app w es).0.history.fed ≡ w.history.fed ++ feeds_from (is_refused (run_on app w es).1) (w.event + 1) es
+-- what was fed is what the events feed that no line refusal_said
+pub feeds_told : (app : Application) (w : World) (es : List Event) → (run_on app w es).0.history.fed ≡ w.history.fed ++ feeds_from (refused_said (run_on app w es).1) (w.event + 1) es
 feeds_told app w [] = sym (append-nil w.history.fed)
 feeds_told app w (e ∷ es) =
     let now = (world_step app w e).1 in
     let next = (world_step app w e).0 in
     let later = (run_on app (world_step app w e).0 es).1 in
     let count : (world_step app w e).0.event ≡ w.event + 1 = event_counts app w e in
-    let of_now : is_refused (world_step app w e).1 (w.event + 1) ≡ is_refusal (act_of app (next_event w) e) = act_refused app (next_event w) (act_of app (next_event w) e) in
-    let not_later : is_refused (run_on app (world_step app w e).0 es).1 (w.event + 1) ≡ false = run_no_earlier app (world_step app w e).0 es (w.event + 1) (omega (arith, count)) in
-    let both : is_refused ((world_step app w e).1 ++ (run_on app (world_step app w e).0 es).1) (w.event + 1) ≡ is_refusal (act_of app (next_event w) e) =
-    list_any-append (refuses (w.event + 1)) now later ∙ (ap (λ b. is_refused (world_step app w e).1 (w.event + 1) || b) not_later ∙ (or_false (is_refused (world_step app w e).1 (w.event + 1)) ∙ of_now)) in
-    let first : (world_step app w e).0.history.fed ≡ w.history.fed ++ feed_of (is_refused ((world_step app w e).1 ++ (run_on app (world_step app w e).0 es).1) (w.event + 1)) (w.event + 1) e =
+    let of_now : refused_said (world_step app w e).1 (w.event + 1) ≡ is_refusal (act_of app (next_event w) e) = act_refused app (next_event w) (act_of app (next_event w) e) in
+    let not_later : refused_said (run_on app (world_step app w e).0 es).1 (w.event + 1) ≡ false = run_no_earlier app (world_step app w e).0 es (w.event + 1) (omega (arith, count)) in
+    let both : refused_said ((world_step app w e).1 ++ (run_on app (world_step app w e).0 es).1) (w.event + 1) ≡ is_refusal (act_of app (next_event w) e) =
+    list_any-append (refusal_said (w.event + 1)) now later ∙ (ap (λ b. refused_said (world_step app w e).1 (w.event + 1) || b) not_later ∙ (or_false (refused_said (world_step app w e).1 (w.event + 1)) ∙ of_now)) in
+    let first : (world_step app w e).0.history.fed ≡ w.history.fed ++ feed_of (refused_said ((world_step app w e).1 ++ (run_on app (world_step app w e).0 es).1) (w.event + 1)) (w.event + 1) e =
     act_fed app (next_event w) (act_of app (next_event w) e) ∙ ap (λ l. w.history.fed ++ l) (event_feeds app (next_event w) e ∙ ap (λ b. feed_of b (w.event + 1) e) (sym both)) in
-    let rest : feeds_from (is_refused (run_on app (world_step app w e).0 es).1) ((world_step app w e).0.event + 1) es ≡ feeds_from (is_refused ((world_step app w e).1 ++ (run_on app (world_step app w e).0 es).1)) (w.event + 1 + 1) es =
-    ap (λ k. feeds_from (is_refused (run_on app (world_step app w e).0 es).1) (k + 1) es) count
-    ∙ feeds_same (is_refused later) (is_refused (now ++ later)) (w.event + 1 + 1) es
+    let rest : feeds_from (refused_said (run_on app (world_step app w e).0 es).1) ((world_step app w e).0.event + 1) es ≡ feeds_from (refused_said ((world_step app w e).1 ++ (run_on app (world_step app w e).0 es).1)) (w.event + 1 + 1) es =
+    ap (λ k. feeds_from (refused_said (run_on app (world_step app w e).0 es).1) (k + 1) es) count
+    ∙ feeds_same (refused_said later) (refused_said (now ++ later)) (w.event + 1 + 1) es
     (λ k le.
-    let no : is_refused (world_step app w e).1 k ≡ false = act_no_other app (next_event w) (act_of app (next_event w) e) k (λ same. omega (arith, le, same)) in
-    sym (list_any-append (refuses k) now later ∙ ap (λ b. b || is_refused (run_on app (world_step app w e).0 es).1 k) no)) in
+    let no : refused_said (world_step app w e).1 k ≡ false = act_no_other app (next_event w) (act_of app (next_event w) e) k (λ same. omega (arith, le, same)) in
+    sym (list_any-append (refusal_said k) now later ∙ ap (λ b. b || refused_said (run_on app (world_step app w e).0 es).1 k) no)) in
     feeds_told app next es
-    ∙ (ap (λ l. l ++ feeds_from (is_refused later) ((world_step app w e).0.event + 1) es) first
-    ∙ (ap (λ l. (w.history.fed ++ feed_of (is_refused (now ++ later) (w.event + 1)) (w.event + 1) e) ++ l) rest
-    ∙ append_assoc w.history.fed (feed_of (is_refused (now ++ later) (w.event + 1)) (w.event + 1) e) (feeds_from (is_refused (now ++ later)) (w.event + 1 + 1) es)))
+    ∙ (ap (λ l. l ++ feeds_from (refused_said later) ((world_step app w e).0.event + 1) es) first
+    ∙ (ap (λ l. (w.history.fed ++ feed_of (refused_said (now ++ later) (w.event + 1)) (w.event + 1) e) ++ l) rest
+    ∙ append_assoc w.history.fed (feed_of (refused_said (now ++ later) (w.event + 1)) (w.event + 1) e) (feeds_from (refused_said (now ++ later)) (w.event + 1 + 1) es)))
   where
     or_false : (b : Bool) → (b || false) ≡ b
     or_false true = refl
@@ -367,7 +363,7 @@ feeds_told app w (e ∷ es) =
 
 -- ---- where a refusal is told
 
--- a line that refuses an event is that of an act which does
+-- a line that refusal_said an event is that of an act which does
 pub act_where : (app : Application) (w : World) (act : Act) (n : ℕ) (cause : Refusal) → In (perform_act app w act).1 (Refused n cause) → (n ≡ w.event) × (act ≡ Refuses cause)
 act_where app w act n cause i =
     each_in Says (perform_act app w act).1 (Refused n cause)
@@ -414,18 +410,3 @@ refusals_told app w (e ∷ es) (suc i) cause is =
     let number : (world_step app w e).0.event + (i + 1) ≡ w.event + (suc i + 1) = omega (arith, event_counts app w e) in
     to_append (world_step app w e).1 (run_on app (world_step app w e).0 es).1 (Refused (w.event + (suc i + 1)) cause)
     (inr (subst (λ n. In (run_on app (world_step app w e).0 es).1 (Refused n cause)) number (refusals_told app (world_step app w e).0 es i cause is)))
-
--- ---- release lines
-
-pub release_lines : (ls : List Line) → filter is_release ls ≡ map line_of (releases_in ls)
-release_lines [] = refl
-release_lines (Release event mark port bytes ∷ ls) = ap (λ l. Release event mark port bytes ∷ l) (release_lines ls)
-release_lines (Dropped event mark cause ∷ ls) = release_lines ls
-release_lines (LostLine event cause ∷ ls) = release_lines ls
-release_lines (Refused event cause ∷ ls) = release_lines ls
-release_lines (Stranger event node ∷ ls) = release_lines ls
-release_lines (Send event frame from to kind msg ∷ ls) = release_lines ls
-release_lines (Serial key marks ∷ ls) = release_lines ls
-release_lines (Epoch key epoch kept marks ∷ ls) = release_lines ls
-release_lines (CellsLine key cells ∷ ls) = release_lines ls
-release_lines (End ∷ ls) = release_lines ls

@@ -10,7 +10,8 @@ use Rattle.proto_data.specs.declared.message.Msg.{Msg}
 use Rattle.proto_data.specs.declared.message.Input.{Input}
 use Rattle.rp_app.specs.Application.{Application}
 use Rattle.proto_model.specs.Effects.{frame_passed}
-use Rattle.proto_model.specs.Handing.{hand, handed, found, found_from, same_node}
+use Rattle.proto_model.specs.Handing.{hand, handed, found, found_from}
+use Rattle.rp_base.specs.Nodes.{same_node}
 use Rattle.proto_model.specs.Lines.{Refused, Stranger}
 use Rattle.proto_model.specs.Pumping.{Received, Pumped, goes_on, datagram, answered, asked, pumped, pumped_node, pumped_unless, running_nodes, acted, linked_event, linked_run}
 use Rattle.proto_model.specs.SwitchRows.{switch_step}

@@ -7,26 +7,28 @@ use Rattle.std.proofs.lemmas.List.Folds.{list_any-append}
 use Rattle.rp_base.specs.Clocks.{TermsHold}
 use Rattle.rp_base.specs.declared.event.Event.{Event}
 use Rattle.rp_base.specs.declared.event.Refusal.{Refusal}
+use Rattle.proto_data.specs.declared.message.Body.{Body}
 use Rattle.proto_data.specs.declared.message.Msg.{Msg}
 use Rattle.proto_data.specs.declared.message.Input.{Input}
 use Rattle.proto_data.specs.declared.terms.Mode.{Mode}
 use Rattle.proto_data.specs.declared.terms.Terms.{Terms}
 use Rattle.rp_app.specs.Application.{Application, IsApplication}
-use Rattle.proto_model.specs.Committed.{closings}
+use Rattle.proto_model.specs.Committed.{committed_flows}
 use Rattle.proto_model.specs.Effects.{frame_passed}
 use Rattle.proto_model.specs.Feeds.{Each}
-use Rattle.proto_model.specs.Lines.{Line, Refused, Stranger}
+use Rattle.proto_model.specs.Lines.{Line, Refused, Stranger, printed}
 use Rattle.proto_model.specs.Pumping.{Received, Pumped, pumped, linked_event, linked_run}
 use Rattle.proto_model.specs.World.{World, Setup, opened}
 use Rattle.proto_model.specs.WorldStep.{Pumps, act_of, perform_act, node_takes, next_event}
-use Rattle.proto_safety.specs.LegalLines.{LegalLines, refuses, is_refused, feed_of, feeds_from, feeds_in, releases_in, flows_in, linked_report}
+use Rattle.proto_safety.specs.LegalLines.{LegalLines, feed_of, feeds_from, feeds_in, releases_in, flows_in, linked_report}
 use Rattle.proto_safety.proofs.ClockSums.{terms_kept}
 use Rattle.proto_safety.proofs.EventCounts.{node_counts, act_counts}
 use Rattle.proto_safety.proofs.LinesTold.{NoSerial, NoRefusal, none_refused, releases_append, node_told, act_told, act_refused, act_no_other, act_fed, event_feeds, node_fed, each_node_takes, act_no_serial, is_refusal, fed_by}
 use Rattle.proto_safety.proofs.LinkedKept.{PumpKeeps, pump_kept, acted_by, linked_kept}
-use Rattle.proto_safety.proofs.LinkedLegal.{linked_histories_meet_rules}
+use Rattle.proto_safety.proofs.RunsAreLegal.{linked_runs_are_legal}
 use Rattle.proto_safety.proofs.Lists.{each_append}
-use Rattle.proto_safety.proofs.ReportLegal.{reported_releases, reported_feeds, reported_flows, same_lists}
+use Rattle.proto_safety.proofs.ReportLegal.{shown_feeds, shown_as_released, shown_flows, same_lists}
+use Rattle.proto_safety.proofs.RunLines.{refusal_said, refused_said, releases_said}
 
 -- ---- feeds
 
@@ -71,26 +73,26 @@ pump_feeds app w e false is =
 -- The lines say the history: `done` are the events whose feeds are counted, and the present event has the number c.
 pub record Said (c : ℕ) (done : List Event) (w : World) (lines : List Line) : Type 0 where
   pub event : w.event ≡ c
-  pub released : w.history.released ≡ releases_in lines
-  pub fed : w.history.fed ≡ feeds_from (is_refused lines) 1 done
-  pub later : (n : ℕ) → c < n → is_refused lines n ≡ false
+  pub released : w.history.released ≡ releases_said lines
+  pub fed : w.history.fed ≡ feeds_from (refused_said lines) 1 done
+  pub later : (n : ℕ) → c < n → refused_said lines n ≡ false
   pub plain : Each NoSerial lines
 
 or_false : (b : Bool) → (b || false) ≡ b
 or_false true = refl
 or_false false = refl
 
-no_more : (xs ys : List Line) (n : ℕ) → is_refused ys n ≡ false → is_refused (xs ++ ys) n ≡ is_refused xs n
-no_more xs ys n h = list_any-append (refuses n) xs ys ∙ (ap (λ b. is_refused xs n || b) h ∙ or_false (is_refused xs n))
+no_more : (xs ys : List Line) (n : ℕ) → refused_said ys n ≡ false → refused_said (xs ++ ys) n ≡ refused_said xs n
+no_more xs ys n h = list_any-append (refusal_said n) xs ys ∙ (ap (λ b. refused_said xs n || b) h ∙ or_false (refused_said xs n))
 
 -- lines of the present event that refuse no event before it
-said_more : (c : ℕ) (done : List Event) (w v : World) (lines more : List Line) → Said c done w lines → v.event ≡ w.event → v.history.released ≡ w.history.released ++ releases_in more → v.history.fed ≡ w.history.fed →
-    ((n : ℕ) → n ≤ length done → is_refused more n ≡ false) → ((n : ℕ) → c < n → is_refused more n ≡ false) → Each NoSerial more → Said c done v (lines ++ more)
+said_more : (c : ℕ) (done : List Event) (w v : World) (lines more : List Line) → Said c done w lines → v.event ≡ w.event → v.history.released ≡ w.history.released ++ releases_said more → v.history.fed ≡ w.history.fed →
+    ((n : ℕ) → n ≤ length done → refused_said more n ≡ false) → ((n : ℕ) → c < n → refused_said more n ≡ false) → Each NoSerial more → Said c done v (lines ++ more)
 said_more c done w v lines more h event released fed early late plain =
     record {
       event = event ∙ h.event;
-      released = released ∙ (ap (λ l. l ++ releases_in more) h.released ∙ sym (releases_append lines more));
-      fed = fed ∙ (h.fed ∙ feeds_below (is_refused lines) (is_refused (lines ++ more)) 1 done (λ k le lt. sym (no_more lines more k (early k (omega (arith, lt))))));
+      released = released ∙ (ap (λ l. l ++ releases_said more) h.released ∙ sym (releases_append lines more));
+      fed = fed ∙ (h.fed ∙ feeds_below (refused_said lines) (refused_said (lines ++ more)) 1 done (λ k le lt. sym (no_more lines more k (early k (omega (arith, lt))))));
       later = λ n lt. no_more lines more n (late n lt) ∙ h.later n lt;
       plain = each_append NoSerial lines more h.plain plain;
     }
@@ -136,12 +138,12 @@ module _ (spelled : Msg → List ℕ) (app : Application) where
   pump_done : (done : List Event) (e : Event) (w : World) (p : Pumped) → w.event ≡ length done + 1 → act_of app w e ≡ Pumps → Said (length done + 1) done p.world p.lines → Told (done ++ e ∷ []) p.world p.lines
   pump_done done e w p at is h =
       let number : 1 + length done ≡ w.event = omega (arith, at) in
-      let none : feed_of (is_refused p.lines (1 + length done)) (1 + length done) e ≡ [] =
-      subst (λ k. feed_of (is_refused p.lines k) k e ≡ []) (sym number) (pump_feeds app w e (is_refused p.lines w.event) is) in
+      let none : feed_of (refused_said p.lines (1 + length done)) (1 + length done) e ≡ [] =
+      subst (λ k. feed_of (refused_said p.lines k) k e ≡ []) (sym number) (pump_feeds app w e (refused_said p.lines w.event) is) in
       record {
         event = h.event ∙ sym (one_longer done e);
         released = h.released;
-        fed = h.fed ∙ (sym (append-nil (feeds_from (is_refused p.lines) 1 done)) ∙ (ap (λ l. feeds_from (is_refused p.lines) 1 done ++ l) (sym none) ∙ sym (feeds_last (is_refused p.lines) 1 done e)));
+        fed = h.fed ∙ (sym (append-nil (feeds_from (refused_said p.lines) 1 done)) ∙ (ap (λ l. feeds_from (refused_said p.lines) 1 done ++ l) (sym none) ∙ sym (feeds_last (refused_said p.lines) 1 done e)));
         later = λ n lt. h.later n (omega (arith, lt, one_longer done e));
         plain = h.plain;
       }
@@ -155,19 +157,19 @@ module _ (spelled : Msg → List ℕ) (app : Application) where
       let more = (perform_act app (next_event p.world) (act_of app (next_event p.world) e)).1 in
       let number : p.world.event + 1 ≡ 1 + length done = omega (arith, h.event) in
       let count : (perform_act app (next_event p.world) (act_of app (next_event p.world) e)).0.event ≡ p.world.event + 1 = act_counts app (next_event p.world) (act_of app (next_event p.world) e) in
-      let none : is_refused p.lines (p.world.event + 1) ≡ false = h.later (p.world.event + 1) (omega (arith, h.event)) in
-      let refused : is_refused (p.lines ++ (perform_act app (next_event p.world) (act_of app (next_event p.world) e)).1) (p.world.event + 1) ≡ is_refusal (act_of app (next_event p.world) e) =
-      list_any-append (refuses (p.world.event + 1)) p.lines more ∙ (ap (λ b. b || is_refused more (p.world.event + 1)) none ∙ act_refused app w act) in
-      let last : feed_of (is_refusal (act_of app (next_event p.world) e)) (p.world.event + 1) e ≡ feed_of (is_refused (p.lines ++ more) (1 + length done)) (1 + length done) e =
-      ap (λ b. feed_of b (p.world.event + 1) e) (sym refused) ∙ ap (λ k. feed_of (is_refused (p.lines ++ more) k) k e) number in
-      let before : feeds_from (is_refused p.lines) 1 done ≡ feeds_from (is_refused (p.lines ++ more)) 1 done =
-      feeds_below (is_refused p.lines) (is_refused (p.lines ++ more)) 1 done (λ k le lt. sym (no_more p.lines more k (act_no_other app w act k (λ same. omega (arith, lt, same, h.event))))) in
+      let none : refused_said p.lines (p.world.event + 1) ≡ false = h.later (p.world.event + 1) (omega (arith, h.event)) in
+      let refused : refused_said (p.lines ++ (perform_act app (next_event p.world) (act_of app (next_event p.world) e)).1) (p.world.event + 1) ≡ is_refusal (act_of app (next_event p.world) e) =
+      list_any-append (refusal_said (p.world.event + 1)) p.lines more ∙ (ap (λ b. b || refused_said more (p.world.event + 1)) none ∙ act_refused app w act) in
+      let last : feed_of (is_refusal (act_of app (next_event p.world) e)) (p.world.event + 1) e ≡ feed_of (refused_said (p.lines ++ more) (1 + length done)) (1 + length done) e =
+      ap (λ b. feed_of b (p.world.event + 1) e) (sym refused) ∙ ap (λ k. feed_of (refused_said (p.lines ++ more) k) k e) number in
+      let before : feeds_from (refused_said p.lines) 1 done ≡ feeds_from (refused_said (p.lines ++ more)) 1 done =
+      feeds_below (refused_said p.lines) (refused_said (p.lines ++ more)) 1 done (λ k le lt. sym (no_more p.lines more k (act_no_other app w act k (λ same. omega (arith, lt, same, h.event))))) in
       record {
         event = count ∙ (omega (arith, h.event, one_longer done e));
-        released = act_told app w act ∙ (ap (λ l. l ++ releases_in more) h.released ∙ sym (releases_append p.lines more));
+        released = act_told app w act ∙ (ap (λ l. l ++ releases_said more) h.released ∙ sym (releases_append p.lines more));
         fed = act_fed app w act
             ∙ (ap (λ l. p.world.history.fed ++ l) (event_feeds app w e ∙ last)
-            ∙ (ap (λ l. l ++ feed_of (is_refused (p.lines ++ more) (1 + length done)) (1 + length done) e) (h.fed ∙ before) ∙ sym (feeds_last (is_refused (p.lines ++ more)) 1 done e)));
+            ∙ (ap (λ l. l ++ feed_of (refused_said (p.lines ++ more) (1 + length done)) (1 + length done) e) (h.fed ∙ before) ∙ sym (feeds_last (refused_said (p.lines ++ more)) 1 done e)));
         later = λ n lt. no_more p.lines more n (act_no_other app w act n (λ same. omega (arith, lt, same, h.event, one_longer done e))) ∙ h.later n (omega (arith, lt, one_longer done e));
         plain = each_append NoSerial p.lines more h.plain (act_no_serial app w act);
       }
@@ -195,25 +197,27 @@ module _ (spelled : Msg → List ℕ) (app : Application) where
       events_said events [] (record { world = opened app.cell_count setup; lines = []; rest = received; ended = false })
       (record { event = refl; released = refl; fed = refl; later = λ n lt. refl; plain = tt })
 
-  pub linked_releases : (setup : Setup) (events : List Event) (received : List Received) (frames : Bool) → releases_in (linked_report spelled frames app setup events received) ≡ (linked_run spelled app setup events received).world.history.released
-  linked_releases setup events received frames =
+  pub linked_releases : (kind : Body → ℕ) (setup : Setup) (events : List Event) (received : List Received) (frames : Bool) →
+      releases_in (printed kind spelled (linked_report spelled frames app setup events received)) ≡ (linked_run spelled app setup events received).world.history.released
+  linked_releases kind setup events received frames =
       let p = linked_run spelled app setup events received in
-      reported_releases frames app.cell_count (p.world, p.lines) ∙ sym (linked_said setup events received).released
+      shown_as_released kind spelled frames app.cell_count (p.world, p.lines) ∙ sym (linked_said setup events received).released
 
-  pub linked_feeds : (setup : Setup) (events : List Event) (received : List Received) (frames : Bool) → feeds_in events (linked_report spelled frames app setup events received) ≡ (linked_run spelled app setup events received).world.history.fed
-  linked_feeds setup events received frames =
+  pub linked_feeds : (kind : Body → ℕ) (setup : Setup) (events : List Event) (received : List Received) (frames : Bool) →
+      feeds_in events (printed kind spelled (linked_report spelled frames app setup events received)) ≡ (linked_run spelled app setup events received).world.history.fed
+  linked_feeds kind setup events received frames =
       let p = linked_run spelled app setup events received in
-      reported_feeds frames app.cell_count (p.world, p.lines) events ∙ sym (linked_said setup events received).fed
+      shown_feeds kind spelled frames app.cell_count (p.world, p.lines) events ∙ sym (linked_said setup events received).fed
 
-  pub linked_flows : (setup : Setup) → setup.terms.mode ≡ Mode.Strict → (events : List Event) (received : List Received) (frames : Bool) →
-      flows_in (linked_report spelled frames app setup events received) ≡ closings app.cell_count (linked_run spelled app setup events received).world
-  linked_flows setup strict events received frames =
+  pub linked_flows : (kind : Body → ℕ) (setup : Setup) → setup.terms.mode ≡ Mode.Strict → (events : List Event) (received : List Received) (frames : Bool) →
+      flows_in (printed kind spelled (linked_report spelled frames app setup events received)) ≡ committed_flows app.cell_count (linked_run spelled app setup events received).world
+  linked_flows kind setup strict events received frames =
       let p = linked_run spelled app setup events received in
       let terms : (linked_run spelled app setup events received).world.terms ≡ setup.terms = linked_kept spelled app (λ (w : World). w.terms ≡ setup.terms) (terms_kept app setup.terms) setup events received refl in
-      reported_flows frames app.cell_count (p.world, p.lines) (ap (λ (t : Terms). t.mode) terms ∙ strict) (linked_said setup events received).plain
+      shown_flows kind spelled frames app.cell_count (p.world, p.lines) (ap (λ (t : Terms). t.mode) terms ∙ strict) (linked_said setup events received).plain
 
-  pub linked_reports_are_legal : IsApplication app → (setup : Setup) → setup.terms.mode ≡ Mode.Strict → TermsHold setup.terms.t_switch setup.terms.t_store setup.terms.ratio → 1 ≤ setup.terms.t_store →
-      (events : List Event) (received : List Received) (frames : Bool) → LegalLines app events (linked_report spelled frames app setup events received)
-  linked_reports_are_legal is setup strict hold some events received frames =
-      same_lists app (linked_feeds setup events received frames) (linked_releases setup events received frames) (linked_flows setup strict events received frames)
-      (linked_histories_meet_rules app is spelled setup strict hold some events received)
+  pub linked_reports_are_legal : (kind : Body → ℕ) → IsApplication app → (setup : Setup) → setup.terms.mode ≡ Mode.Strict → TermsHold setup.terms.t_switch setup.terms.t_store setup.terms.ratio →
+      (events : List Event) (received : List Received) (frames : Bool) → LegalLines app events (printed kind spelled (linked_report spelled frames app setup events received))
+  linked_reports_are_legal kind is setup strict hold events received frames =
+      same_lists app (linked_feeds kind setup events received frames) (linked_releases kind setup events received frames) (linked_flows kind setup strict events received frames)
+      (linked_runs_are_legal app is spelled setup strict hold events received)

@@ -15,7 +15,9 @@ use Rattle.proto_model.specs.Feeds.{Pairwise, fed_at, packet_at, packets_at, key
 use Rattle.proto_model.specs.Kept.{base, after_marks, marks_in}
 use Rattle.proto_model.specs.Legal.{IsOutputIn}
 use Rattle.proto_model.specs.Loss.{ItemAt, MarksOnce, InOrder, KeylessReleased}
-use Rattle.proto_model.specs.World.{World, Fed, Journaled, Released, RoundBegun}
+use Rattle.proto_model.specs.World.{World, Journaled, RoundBegun}
+use Rattle.rp_base.specs.declared.legality.Fed.{Fed}
+use Rattle.rp_base.specs.declared.legality.Released.{Released}
 use Rattle.proto_safety.specs.Books.{In, committed_of}
 use Rattle.proto_safety.specs.Flows.{FitsFrom, flow_in, flow_of}
 use Rattle.proto_safety.specs.LossLaws.{kept_front, cells_over, HistoryStands, ReleasedBy, keyless, by_item}
@@ -27,7 +29,7 @@ use Rattle.proto_safety.proofs.PutsKept.{somewhere}
 use Rattle.proto_safety.proofs.FlowBooks.{book_flow}
 use Rattle.proto_safety.proofs.FlowSerial.{MadeIn, ran-append}
 use Rattle.proto_safety.proofs.KeptFronts.{BookRounds, base_is, committed_cells_are}
-use Rattle.proto_safety.proofs.LegalNow.{among_in}
+use Rattle.proto_safety.proofs.Lists.{among_in}
 use Rattle.proto_safety.proofs.Lists.{each_all}
 use Rattle.proto_safety.proofs.SerialOnce.{pairwise_filter}
 use Rattle.proto_safety.proofs.SnapRounds.{snap_round}

@@ -4,7 +4,8 @@ use Rattle.rp_base.specs.Clocks.{TermsHold}
 use Rattle.rp_base.specs.declared.event.Event.{Event}
 use Rattle.proto_data.specs.declared.terms.Mode.{Mode}
 use Rattle.rp_app.specs.Application.{Application, IsApplication}
-use Rattle.proto_model.specs.World.{World, Setup, Journaled, Released, opened}
+use Rattle.proto_model.specs.World.{World, Setup, Journaled, opened}
+use Rattle.rp_base.specs.declared.legality.Released.{Released}
 use Rattle.proto_model.specs.WorldStep.{world_after}
 use Rattle.proto_safety.specs.LossLaws.{HistoryStands}
 use Rattle.proto_safety.proofs.FlowCellCount.{AllCounted, counted_kept, all_counted}
@@ -29,11 +30,11 @@ Showing app bound w = Measured app bound w × Shows app w
 pub showing_kept : (app : Application) (bound : ℕ) → IsApplication app → Keeps app (Showing app bound)
 showing_kept app bound is = keeps_both app (Measured app bound) (Shows app) (measured_kept app bound) (shows_kept app bound is)
 
-module _ (app : Application) (is : IsApplication app) (setup : Setup) (bound : ℕ) (mode : setup.terms.mode ≡ Mode.Snapshot bound) (hold : TermsHold setup.terms.t_switch setup.terms.t_store setup.terms.ratio) (some : 1 ≤ setup.terms.t_store) where
+module _ (app : Application) (is : IsApplication app) (setup : Setup) (bound : ℕ) (mode : setup.terms.mode ≡ Mode.Snapshot bound) (hold : TermsHold setup.terms.t_switch setup.terms.t_store setup.terms.ratio) where
   pub showing_after : (events : List Event) → Showing app bound (world_after app (opened app.cell_count setup) events)
   showing_after events =
       run_kept app (Showing app bound) (showing_kept app bound is) events (opened app.cell_count setup) (
-        (celled_after app setup bound mode hold some [], all_counted app setup []),
+        (celled_after app setup bound mode hold [], all_counted app setup []),
         record { within = tt; items_within = tt; turns = tt; fed_first = λ j i. absurd i; shown = λ r i. absurd i },
       )
 

@@ -5,7 +5,7 @@ use Rattle.std.proofs.lemmas.Bool.{both_ways, leb-true, leb-false}
 use Rattle.proto_data.specs.declared.message.Entry.{Entry}
 use Rattle.proto_model.specs.Table.{Key}
 use Rattle.proto_safety.specs.Books.{In}
-use Rattle.proto_safety.specs.Flows.{Flow, FitsFrom, flow_step}
+use Rattle.proto_safety.specs.Flows.{FlowRecord, FitsFrom, flow_step}
 use Rattle.proto_safety.specs.LeaseLaws.{HasEpoch}
 use Rattle.proto_safety.proofs.BookEpochs.{Stepped, other, first, next, put, snap, stepped, From, entry_from, key_of_epoch}
 
@@ -20,23 +20,23 @@ pub record NextGrant (key : Key) (epoch : ℕ) (es : List Entry) : Type 0 where
   pub all_before : (x : Entry) → In es x → HasEpoch key epoch x → In before x
 
 -- a flow that isn't past the epoch, and one in the next
-abbrev pub Upto : Option Flow → ℕ → Type 0
+abbrev pub Upto : Option FlowRecord → ℕ → Type 0
 Upto None k = Unit {0}
 Upto (Some f) k = f.epoch ≤ k
 
-abbrev Past : Option Flow → ℕ → Type 0
+abbrev Past : Option FlowRecord → ℕ → Type 0
 Past None k = ⊥
 Past (Some f) k = f.epoch ≡ k + 1
 
-past_not_from : (u : Option Flow) (k : ℕ) → Past u k → From u k → ⊥
+past_not_from : (u : Option FlowRecord) (k : ℕ) → Past u k → From u k → ⊥
 past_not_from None k p f = p
 past_not_from (Some f) k p h = absurd (omega (arith, p, h))
 
 -- an entry leaves the flow up to the epoch, or is the Grant of the next one
-abbrev Turn : Key → ℕ → Entry → Option Flow → Type 0
+abbrev Turn : Key → ℕ → Entry → Option FlowRecord → Type 0
 Turn key epoch e u = Upto u epoch ⊎ ((s : ℕ) × ((i : ℕ) × ((m : ℕ) × ((e ≡ Entry.Grant key (epoch + 1) s i m) × Past u epoch))))
 
-turn : {n : ℕ} {key : Key} {o u : Option Flow} {e : Entry} (epoch : ℕ) → Stepped n key o e u → Upto o epoch → Turn key epoch e u
+turn : {n : ℕ} {key : Key} {o u : Option FlowRecord} {e : Entry} (epoch : ℕ) → Stepped n key o e u → Upto o epoch → Turn key epoch e u
 turn epoch (other ne) h = inl h
 turn {key = key} epoch (first {switch = s} {inc = i} {nonce = m}) h = first_case (nat_le 1 epoch) refl
   where
@@ -52,14 +52,14 @@ turn epoch put h = inl h
 turn epoch snap h = inl h
 
 -- an entry's own epoch
-head_upto : {n : ℕ} {key : Key} {o u : Option Flow} {e : Entry} (k epoch : ℕ) → Stepped n key o e u → HasEpoch key k e → Upto u epoch → k ≤ epoch
+head_upto : {n : ℕ} {key : Key} {o u : Option FlowRecord} {e : Entry} (k epoch : ℕ) → Stepped n key o e u → HasEpoch key k e → Upto u epoch → k ≤ epoch
 head_upto {key = key} {e = e} k epoch (other ne) h up = absurd (both_ways _ ne (key_of_epoch key k e h))
 head_upto k epoch first h up = omega (arith, h.1, up)
 head_upto k epoch (next {f = f}) h up = omega (arith, h.1, up)
 head_upto k epoch (put {f = f}) h up = omega (arith, h.1, up)
 head_upto k epoch (snap {f = f}) h up = omega (arith, h.1, up)
 
-pub next_grant : (n : ℕ) (key : Key) (o : Option Flow) (es : List Entry) (epoch later : ℕ) (e : Entry) → FitsFrom n key o es → In es e → HasEpoch key later e → epoch < later → Upto o epoch → NextGrant key epoch es
+pub next_grant : (n : ℕ) (key : Key) (o : Option FlowRecord) (es : List Entry) (epoch later : ℕ) (e : Entry) → FitsFrom n key o es → In es e → HasEpoch key later e → epoch < later → Upto o epoch → NextGrant key epoch es
 next_grant n key o [] epoch later e fits i h lt up = absurd i
 next_grant n key o (x ∷ xs) epoch later e fits i h lt up =
     turn_case (turn epoch (stepped n key o x fits.0) up) i (λ j u. next_grant n key (flow_step n key o x) xs epoch later e fits.1 j h lt u)

@@ -13,7 +13,7 @@ use Rattle.proto_model.specs.Routing.{picked}
 use Rattle.proto_model.specs.SwitchState.{Switch}
 use Rattle.proto_model.specs.ReplicaState.{Replica}
 use Rattle.proto_model.specs.World.{World, SwitchNode, ReplicaNode, numbers_from, believed_switches}
-use Rattle.proto_model.specs.WorldStep.{Act, Feeds, Delivers, Passes, Advances, Alarms, Stops, Boots, Detects, Announces, Pumps, act_of, refuses_if, feed_picked, packet_at, deliver_act, numbered_frame, next_act, next_from, runs_now, believed_up, frames_full, rates_hold, padded, changed_at, advanced_switches, advanced_replicas}
+use Rattle.proto_model.specs.WorldStep.{Act, Feeds, Delivers, Passes, Advances, Alarms, Stops, Boots, Detects, Announces, Pumps, act_of, refuses_if, feed_picked, event_packet, deliver_act, numbered_frame, next_act, next_from, runs_now, believed_up, frames_full, rates_hold, padded, changed_at, advanced_switches, advanced_replicas}
 use Rattle.proto_safety.specs.Books.{In}
 use Rattle.proto_safety.specs.Sizes.{EventSized}
 use Rattle.proto_safety.proofs.Chains.{without}
@@ -114,8 +114,8 @@ next_sized None = tt
 next_sized (Some f) = tt
 
 pub act_sized : (app : Application) (w : World) (e : Event) → EventSized e → ActSized (act_of app w e)
-act_sized app w (Event.Feed port bytes) h = if_sized (frames_full w) Refusal.FramesFull _ (picked_sized w (packet_at w port bytes) (picked (believed_switches w) (app.key_of (packet_at w port bytes))) h)
-act_sized app w (Event.FeedAt n port bytes) h = if_sized (frames_full w) Refusal.FramesFull _ (if_sized (not (runs_now w (Node.Switch n))) Refusal.Dead (Feeds n (packet_at w port bytes)) h)
+act_sized app w (Event.Feed port bytes) h = if_sized (frames_full w) Refusal.FramesFull _ (picked_sized w (event_packet w port bytes) (picked (believed_switches w) (app.key_of (event_packet w port bytes))) h)
+act_sized app w (Event.FeedAt n port bytes) h = if_sized (frames_full w) Refusal.FramesFull _ (if_sized (not (runs_now w (Node.Switch n))) Refusal.Dead (Feeds n (event_packet w port bytes)) h)
 act_sized app w (Event.Deliver i) h = if_sized (frames_full w) Refusal.FramesFull _ (if_sized w.linked Refusal.Linked _ (deliver_sized w (numbered_frame w i)))
 act_sized app w Event.Next h = if_sized (frames_full w) Refusal.FramesFull _ (if_sized w.linked Refusal.Linked _ (next_sized (next_from w 0 w.frames)))
 act_sized app w (Event.Drop i) h = if_sized w.linked Refusal.Linked _ (if_sized (not (nat_lt i (length w.frames))) Refusal.NoFrame (Passes i) tt)

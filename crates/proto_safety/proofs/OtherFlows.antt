@@ -4,7 +4,7 @@ use Rattle.std.specs.Prelude.{filter, not, if◌then◌else◌}
 use Rattle.proto_model.specs.Table.{Key, same_key, get}
 use Rattle.proto_model.specs.SwitchState.{Switch, Copy, is_of}
 use Rattle.proto_model.specs.SwitchRow.{SwitchRow, NewAsk, AskAgain, Drops, Direct, Mirrored, Granted, Late, Acked, RoundDone, Denied, Busied, Resends}
-use Rattle.proto_model.specs.SwitchActs.{perform}
+use Rattle.proto_model.specs.SwitchOutcomes.{perform}
 use Rattle.proto_safety.proofs.Tables.{get-put_other, same_key-true}
 
 -- a row that acts on another flow than k

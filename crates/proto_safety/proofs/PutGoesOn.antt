@@ -5,7 +5,8 @@ use Rattle.std.proofs.lemmas.Bool.{both_ways}
 use Rattle.rp_base.specs.declared.node.Packet.{Packet}
 use Rattle.rp_app.specs.Application.{Application, Delta}
 use Rattle.proto_model.specs.Feeds.{Each, packet_at}
-use Rattle.proto_model.specs.World.{Fed, Journaled}
+use Rattle.proto_model.specs.World.{Journaled}
+use Rattle.rp_base.specs.declared.legality.Fed.{Fed}
 use Rattle.proto_safety.specs.Books.{In}
 use Rattle.proto_safety.proofs.Lists.{each_append}
 use Rattle.proto_safety.proofs.FlowAlarm.{to_filter}

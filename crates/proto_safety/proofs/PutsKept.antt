@@ -13,7 +13,7 @@ use Rattle.proto_safety.specs.Flows.{FitsFrom}
 use Rattle.proto_safety.proofs.Chains.{each_in}
 use Rattle.proto_safety.proofs.FlowBooks.{in_prefix}
 use Rattle.proto_safety.proofs.BookEpochs.{one_place}
-use Rattle.proto_safety.proofs.WorldPuts.{NumberIn, PutFrame, GrantOf, Awaited, NumberFits, Owned, PutsFit, put_parts}
+use Rattle.proto_safety.proofs.WorldPuts.{NumberIn, NumberFrame, GrantOf, Awaited, NumberFits, Owned, NumberFramesFit, put_parts}
 
 -- a member stands somewhere
 pub record Somewhere {A : Type 0} (xs : List A) (x : A) : Type 0 where
@@ -37,8 +37,8 @@ not_again n key es k s i m t j p fits there =
     absurd (omega (arith, ap length same, len))
 
 -- a message is neither a Put nor a Snap
-abbrev pub NoPut : Msg → Type 0
-NoPut m = (inc e k : ℕ) (key : Key) → NumberIn inc e k key m.body → ⊥
+abbrev pub Unnumbered : Msg → Type 0
+Unnumbered m = (inc e k : ℕ) (key : Key) → NumberIn inc e k key m.body → ⊥
 
 -- a slot of a switch that was there before
 pub record SlotWas (old : List SwitchNode) (n : ℕ) (node : SwitchNode) (key : Key) (slot : Slot) : Type 0 where
@@ -55,10 +55,10 @@ pub record GrantWas (old : List ReplicaNode) (r : ℕ) (key : Key) (e s i m : �
   pub there : In (entries_of node_was.book) (Entry.Grant key e s i m)
 
 module _ (frames ms : List Msg) (switches after : List SwitchNode) (replicas later : List ReplicaNode) (items : List Journaled)
-    (no_puts : Each NoPut ms) (grows : IsPrefix (committed_of replicas) (committed_of later))
+    (no_puts : Each Unnumbered ms) (grows : IsPrefix (committed_of replicas) (committed_of later))
     (slots : (n : ℕ) (node : SwitchNode) (key : Key) (slot : Slot) → slice_get after n ≡ Some node → slot_at node.state key ≡ Some slot → SlotWas switches n node key slot)
     (grants : (r : ℕ) (replica : ReplicaNode) (key : Key) (e s i m : ℕ) → slice_get later r ≡ Some replica → lives replica ≡ true → In (entries_of replica.book) (Entry.Grant key e s i m) → GrantWas replicas r key e s i m ⊎ (Owned (committed_of replicas) key e → ⊥))
-    (h : PutsFit frames switches replicas items) where
+    (h : NumberFramesFit frames switches replicas items) where
   granted_later : (n inc e : ℕ) (key : Key) → GrantOf (committed_of replicas) n inc key e → GrantOf (committed_of later) n inc key e
   granted_later n inc e key g = record { nonce = g.nonce; there = in_prefix (committed_of replicas) (committed_of later) _ grows g.there }
 
@@ -92,14 +92,14 @@ module _ (frames ms : List Msg) (switches after : List SwitchNode) (replicas lat
             granted = subst (λ (x : ℕ). In (entries_of g.node_was.book) (Entry.Grant key e a.n x a.nonce)) w.inc g.there;
           })
 
-  old_put : (n inc e k : ℕ) (key : Key) → PutFrame (frames ++ ms) n inc key e k → PutFrame frames n inc key e k
+  old_put : (n inc e k : ℕ) (key : Key) → NumberFrame (frames ++ ms) n inc key e k → NumberFrame frames n inc key e k
   old_put n inc e k key p = part_case (put_parts frames ms n inc e k key p)
     where
-      part_case : PutFrame frames n inc key e k ⊎ PutFrame ms n inc key e k → PutFrame frames n inc key e k
+      part_case : NumberFrame frames n inc key e k ⊎ NumberFrame ms n inc key e k → NumberFrame frames n inc key e k
       part_case (inl q) = q
-      part_case (inr q) = absurd (each_in NoPut ms q.msg no_puts q.there inc e k key q.number_in)
+      part_case (inr q) = absurd (each_in Unnumbered ms q.msg no_puts q.there inc e k key q.number_in)
 
-  pub changed_puts : PutsFit (frames ++ ms) after later items
+  pub changed_puts : NumberFramesFit (frames ++ ms) after later items
   changed_puts =
       record {
         granted = λ n inc e k key p. granted_later n inc e key (h.granted n inc e k key (old_put n inc e k key p));

@@ -8,14 +8,16 @@ use Rattle.proto_model.specs.Effects.{added, switch_moved}
 use Rattle.proto_model.specs.Feeds.{Each}
 use Rattle.proto_model.specs.Legal.{ReleasedBefore}
 use Rattle.proto_model.specs.SwitchRows.{switch_step}
-use Rattle.proto_model.specs.World.{World, Setup, Fed, Released, opened}
+use Rattle.proto_model.specs.World.{World, Setup, opened}
+use Rattle.rp_base.specs.declared.legality.Fed.{Fed}
+use Rattle.rp_base.specs.declared.legality.Released.{Released}
 use Rattle.proto_model.specs.WorldStep.{world_after}
 use Rattle.proto_safety.specs.Books.{In}
 use Rattle.proto_safety.proofs.Chains.{each_in}
 use Rattle.proto_safety.proofs.FlowBooks.{in_last}
 use Rattle.proto_safety.proofs.Induction.{Keeps, KeepsGiven, with_fed, keeps_both, run_kept}
-use Rattle.proto_safety.proofs.LegalNow.{fed_found, among_in}
-use Rattle.proto_safety.proofs.Lists.{each_append}
+use Rattle.proto_safety.proofs.FedMarks.{fed_found}
+use Rattle.proto_safety.proofs.Lists.{among_in, each_append}
 use Rattle.proto_safety.proofs.SlotCells.{opened_whole}
 use Rattle.proto_safety.proofs.WorldMarks.{MarksOf, HasFed, Given, given_kept, marks_kept, opened_marks}
 
@@ -84,8 +86,8 @@ late app is setup events =
     (((opened_whole app setup, record { within = tt; differ = tt }), opened_marks app setup), record { fed = tt; released = tt })).1
 
 -- no mark was released before it was fed
-pub none_before : (w : World) → Late w → (m : ℕ) → ¬ ReleasedBefore w.history.fed w.history.released m m
-none_before w l m x =
+pub none_early_in : (w : World) → Late w → (m : ℕ) → ¬ ReleasedBefore w.history.fed w.history.released m m
+none_early_in w l m x =
     let g = fed_found w.history.fed m x.1 x.3 in
     let fed : x.1.event ≡ x.1.packet.mark = each_in (λ (f : Fed). f.event ≡ f.packet.mark) w.history.fed x.1 l.fed g.0 in
     let released : x.0.output.mark ≤ x.0.event = each_in (λ (r : Released). r.output.mark ≤ r.event) w.history.released x.0 l.released (among_in w.history.released x.0 x.2) in
@@ -93,6 +95,6 @@ none_before w l m x =
     let same : x.0.output.mark ≡ m = x.4 in
     let lt : x.0.event < x.1.event = x.5 in absurd (omega arith)
 
-pub none_before_feed : (app : Application) → IsApplication app → (setup : Setup) (events : List Event) (m : ℕ) →
+pub none_early : (app : Application) → IsApplication app → (setup : Setup) (events : List Event) (m : ℕ) →
     ¬ ReleasedBefore (world_after app (opened app.cell_count setup) events).history.fed (world_after app (opened app.cell_count setup) events).history.released m m
-none_before_feed app is setup events m = none_before (world_after app (opened app.cell_count setup) events) (late app is setup events) m
+none_early app is setup events m = none_early_in (world_after app (opened app.cell_count setup) events) (late app is setup events) m

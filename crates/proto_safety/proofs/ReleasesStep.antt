@@ -9,13 +9,14 @@ use Rattle.rp_base.specs.declared.node.Output.{Output}
 use Rattle.proto_data.specs.declared.message.Entry.{Entry}
 use Rattle.proto_data.specs.declared.message.Carried.{Carried}
 use Rattle.rp_app.specs.Application.{Application, zeros}
-use Rattle.proto_model.specs.Carrying.{output_of}
+use Rattle.proto_data.specs.Carrying.{output_of}
 use Rattle.proto_model.specs.Table.{Key}
 use Rattle.proto_model.specs.Ring.{Ring, remembers}
 use Rattle.proto_model.specs.Feeds.{packet_at, key_at}
 use Rattle.proto_model.specs.Committed.{epoch_granted, is_in, is_closed}
-use Rattle.proto_model.specs.SwitchActs.{held_output}
-use Rattle.proto_model.specs.World.{Fed, Journaled}
+use Rattle.proto_model.specs.SwitchOutcomes.{held_output}
+use Rattle.proto_model.specs.World.{Journaled}
+use Rattle.rp_base.specs.declared.legality.Fed.{Fed}
 use Rattle.proto_safety.specs.Books.{In}
 use Rattle.proto_safety.proofs.FlowAlarm.{to_filter, to_append}
 use Rattle.proto_safety.proofs.SerialLists.{closing_in, epochs_in, journal_in, closed_in, serial_in}

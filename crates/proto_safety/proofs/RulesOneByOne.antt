@@ -1,13 +1,15 @@
 -- The rules together and one by one are the same.
 use Rattle.std.proofs.Common.{◌≡◌, ◌≢◌, ℕ, List, [], ◌∷◌, Option, Some, None, refl, sym, ◌∙◌}
 use Rattle.rp_app.specs.Application.{Application}
+use Rattle.proto_model.specs.Legal.{Legal}
 use Rattle.proto_model.specs.Table.{Key}
-use Rattle.proto_model.specs.World.{Fed, Released}
+use Rattle.rp_base.specs.declared.legality.Fed.{Fed}
+use Rattle.rp_base.specs.declared.legality.Released.{Released}
 use Rattle.proto_model.specs.Feeds.{Each, Pairwise, key_at}
-use Rattle.proto_model.specs.Committed.{Closing}
-use Rattle.proto_safety.specs.LegalLines.{MeetsRules, AllRules, LeastFailing, lists_fail, keyed_fail, order_fails, cells_fail, keyless_fail}
+use Rattle.rp_base.specs.declared.legality.Flow.{Flow}
+use Rattle.proto_safety.specs.LegalLines.{AllRules, LeastFailing, lists_fail, keyed_fail, order_fails, cells_fail, keyless_fail}
 
-module _ (app : Application) (feeds : List Fed) (releases : List Released) (flows : List Closing) where
+module _ (app : Application) (feeds : List Fed) (releases : List Released) (flows : List Flow) where
   abbrev Differ : Released → Released → Type 0
   Differ a b = a.output.mark ≢ b.output.mark
 
@@ -37,33 +39,31 @@ module _ (app : Application) (feeds : List Fed) (releases : List Released) (flow
   once_both [] h k = tt
   once_both (x ∷ xs) h k = (each_both (Differ x) x xs h.0 k.0, once_both xs h.1 k.1)
 
-  pub rules_apart : MeetsRules app feeds releases flows → AllRules app feeds releases flows
+  pub rules_apart : Legal app feeds releases flows → AllRules app feeds releases flows
   rules_apart m =
       record {
-        lists = record { fed_with_key = m.legal.fed_with_key; each_once = m.legal.each_once };
-        keyed = record { from_list = m.legal.released_from_list; once = once_of Keyed releases m.legal.released_once };
-        order = record { in_order = m.legal.in_order; none_early = m.none_early };
-        cells = m.legal.cells_folded;
-        keyless = record { from_feed = m.legal.released_without_key; once = once_of Keyless releases m.legal.released_once };
+        lists = record { fed_with_key = m.fed_with_key; each_once = m.each_once };
+        keyed = record { from_list = m.released_from_list; once = once_of Keyed releases m.released_once };
+        order = record { in_order = m.in_order; none_early = m.none_early };
+        cells = m.cells_folded;
+        keyless = record { from_feed = m.released_without_key; once = once_of Keyless releases m.released_once };
       }
 
-  pub rules_together : AllRules app feeds releases flows → MeetsRules app feeds releases flows
+  pub rules_together : AllRules app feeds releases flows → Legal app feeds releases flows
   rules_together a =
       record {
-        legal = record {
-          fed_with_key = a.lists.fed_with_key;
-          each_once = a.lists.each_once;
-          released_from_list = a.keyed.from_list;
-          released_once = once_both releases a.keyed.once a.keyless.once;
-          in_order = a.order.in_order;
-          cells_folded = a.cells;
-          released_without_key = a.keyless.from_feed;
-        };
+        fed_with_key = a.lists.fed_with_key;
+        each_once = a.lists.each_once;
+        released_from_list = a.keyed.from_list;
+        released_once = once_both releases a.keyed.once a.keyless.once;
+        in_order = a.order.in_order;
         none_early = a.order.none_early;
+        cells_folded = a.cells;
+        released_without_key = a.keyless.from_feed;
       }
 
   -- where a rule fails, they aren't all met
-  pub one_fails : (n : ℕ) → LeastFailing app feeds releases flows n → ¬ MeetsRules app feeds releases flows
+  pub one_fails : (n : ℕ) → LeastFailing app feeds releases flows n → ¬ Legal app feeds releases flows
   one_fails n (lists_fail fails) m = fails (rules_apart m).lists
   one_fails n (keyed_fail a fails) m = fails (rules_apart m).keyed
   one_fails n (order_fails a b fails) m = fails (rules_apart m).order

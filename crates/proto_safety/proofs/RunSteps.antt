@@ -15,7 +15,8 @@ use Rattle.proto_model.specs.ReplicaRows.{store_step}
 use Rattle.proto_model.specs.Runs.{Run, before, act_at, between}
 use Rattle.proto_model.specs.Straight.{is_calm}
 use Rattle.proto_model.specs.SwitchRows.{switch_step}
-use Rattle.proto_model.specs.World.{World, SwitchNode, ReplicaNode, Released, opened}
+use Rattle.proto_model.specs.World.{World, SwitchNode, ReplicaNode, opened}
+use Rattle.rp_base.specs.declared.legality.Released.{Released}
 use Rattle.proto_model.specs.WorldStep.{Act, Refuses, Feeds, Delivers, Passes, Advances, Alarms, Stops, Boots, Detects, Announces, Pumps, act_of, perform_act, node_takes, switch_takes, replica_takes, advanced_switches, announcements, next_event, world_step, world_after}
 use Rattle.proto_safety.specs.Books.{IsPrefix}
 use Rattle.proto_safety.proofs.Acts.{Fits, act_fits}

@@ -7,7 +7,7 @@ use Rattle.proto_model.specs.Table.{Key}
 use Rattle.proto_model.specs.Slot.{Slot, Lease, Held, Round}
 use Rattle.proto_model.specs.SwitchState.{Switch, slot_at}
 use Rattle.proto_model.specs.SwitchRow.{SwitchRow, Late, Resends}
-use Rattle.proto_model.specs.SwitchActs.{perform}
+use Rattle.proto_model.specs.SwitchOutcomes.{perform}
 use Rattle.proto_model.specs.SwitchAlarm.{alarm, Walk, strict_slot, snap_slot, held_slot, walked_slot, walked_key, walked_more, walked_slots, walk_order}
 use Rattle.std.proofs.lemmas.Grind.{common_steps}
 use Rattle.proto_safety.proofs.Lists.{length_take_le}

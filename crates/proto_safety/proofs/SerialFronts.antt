@@ -11,7 +11,7 @@ use Rattle.proto_model.specs.Feeds.{Each}
 use Rattle.proto_model.specs.Committed.{number_in, greater, epoch_granted, is_closed}
 use Rattle.proto_model.specs.World.{Journaled}
 use Rattle.proto_safety.specs.Books.{In}
-use Rattle.proto_safety.specs.Flows.{Flow, FitsFrom, flow_step, flow_of}
+use Rattle.proto_safety.specs.Flows.{FlowRecord, FitsFrom, flow_step, flow_of}
 use Rattle.proto_safety.specs.LeaseLaws.{HasEpoch}
 use Rattle.proto_safety.proofs.Tables.{same_key-refl}
 use Rattle.proto_safety.proofs.BookEpochs.{Stepped, other, first, next, put, snap, stepped, Above, step_above, fits_parts, entry_from}
@@ -33,7 +33,7 @@ pub closing_stays : (key : Key) (e : ℕ) (es more : List Entry) → ((x : Entry
 closing_stays key e es more h = fold-append (λ c x. greater c (number_in key e x)) None es more ∙ closing_stays_from key e (closing_in key e es) more h
 
 -- the epochs that entries grant come later than what was reached before them
-pub one_epoch : {n : ℕ} {key : Key} {o u : Option Flow} {x : Entry} → Stepped n key o x u → Each (λ d. Above o d) (epochs_in key (x ∷ []))
+pub one_epoch : {n : ℕ} {key : Key} {o u : Option FlowRecord} {x : Entry} → Stepped n key o x u → Each (λ d. Above o d) (epochs_in key (x ∷ []))
 one_epoch {key = key} {o = o} {x = x} (other ne) = let e : epochs_in key (x ∷ []) ≡ [] = rw (no_grant key x ne) refl in subst (λ l. Each (λ d. Above o d) l) (sym e) tt
 one_epoch {key = key} {o = o} (first {switch = s} {inc = i} {nonce = m}) =
     let e : epochs_in key (Entry.Grant key 1 s i m ∷ []) ≡ 1 ∷ [] = rw (same_key-refl key) refl in subst (λ l. Each (λ d. Above o d) l) (sym e) (omega arith, tt)
@@ -42,7 +42,7 @@ one_epoch {key = key} {o = o} (next {f = f} {switch = s} {inc = i} {nonce = m}) 
 one_epoch put = tt
 one_epoch snap = tt
 
-pub epochs_above : (n : ℕ) (key : Key) (o : Option Flow) (more : List Entry) → FitsFrom n key o more → Each (λ d. Above o d) (epochs_in key more)
+pub epochs_above : (n : ℕ) (key : Key) (o : Option FlowRecord) (more : List Entry) → FitsFrom n key o more → Each (λ d. Above o d) (epochs_in key more)
 epochs_above n key o [] fits = tt
 epochs_above n key o (x ∷ xs) fits =
     subst (λ l. Each (λ d. Above o d) l) (sym (filter_map-append (epoch_granted key) (x ∷ []) xs))
@@ -55,7 +55,7 @@ below_all : (e : ℕ) (ds : List ℕ) → Each (λ d. d < e) ds → filter (λ d
 below_all e ds h = filter_all (λ d. nat_lt d e) ds (each_weaker (λ d. d < e) (λ d. nat_lt d e ≡ true) ds (λ d lt. lt-ltb d e lt) h)
 
 -- none of these epochs comes before this one
-none_below : (e : ℕ) (f : Flow) (ds : List ℕ) → e ≤ f.epoch + 1 → Each (λ d. Above (Some f) d) ds → filter (λ d. nat_lt d e) ds ≡ []
+none_below : (e : ℕ) (f : FlowRecord) (ds : List ℕ) → e ≤ f.epoch + 1 → Each (λ d. Above (Some f) d) ds → filter (λ d. nat_lt d e) ds ≡ []
 none_below e f ds le h = filter_no (λ d. nat_lt d e) ds (λ d i. none_case d (each_in (λ d. Above (Some f) d) ds d h i) (nat_lt d e) refl)
   where
     none_case : (d : ℕ) → f.epoch + 1 ≤ d → (b : Bool) → nat_lt d e ≡ b → b ≡ false
@@ -63,7 +63,7 @@ none_below e f ds le h = filter_no (λ d. nat_lt d e) ds (λ d i. none_case d (e
     none_case d a false is = refl
 
 -- the front of an epoch that is granted stands still, and so does that of the next one as long as the last has no more entries
-module _ (n : ℕ) (key : Key) (es more : List Entry) (fits : FitsFrom n key None (es ++ more)) (f : Flow) (flow : flow_of n key es ≡ Some f) where
+module _ (n : ℕ) (key : Key) (es more : List Entry) (fits : FitsFrom n key None (es ++ more)) (f : FlowRecord) (flow : flow_of n key es ≡ Some f) where
   parts : FitsFrom n key None es × FitsFrom n key (Some f) more
   parts = let p = fits_parts n key None es more fits in (p.0, subst (λ o. FitsFrom n key o more) flow p.1)
 
@@ -90,7 +90,7 @@ not_below e = lt_case (nat_lt e e) refl
     lt_case false is = refl
 
 -- the serial list is the front of the last epoch and that epoch's closed items
-pub serial_parts : (n : ℕ) (key : Key) (es : List Entry) (items : List Journaled) (f : Flow) → FitsFrom n key None es → flow_of n key es ≡ Some f → serial_in key es items ≡ front_in key es items f.epoch ++ closed_in key es items f.epoch
+pub serial_parts : (n : ℕ) (key : Key) (es : List Entry) (items : List Journaled) (f : FlowRecord) → FitsFrom n key None es → flow_of n key es ≡ Some f → serial_in key es items ≡ front_in key es items f.epoch ++ closed_in key es items f.epoch
 serial_parts n key es items f fits flow =
     let k = (closes n key es fits).epochs f flow in
     ap (λ l. flat_map (closed_in key es items) l) k.1.0

@@ -10,7 +10,7 @@ use Rattle.proto_model.specs.Committed.{is_closed, greater, number_in, epoch_gra
 use Rattle.proto_model.specs.Feeds.{Each}
 use Rattle.proto_model.specs.World.{Journaled}
 use Rattle.proto_safety.specs.Books.{IsPrefix}
-use Rattle.proto_safety.specs.Flows.{Flow, FitsFrom, flow_of}
+use Rattle.proto_safety.specs.Flows.{FlowRecord, FitsFrom, flow_of}
 use Rattle.proto_safety.proofs.BookEpochs.{fits_parts}
 use Rattle.proto_safety.proofs.FlowCells.{ItemsKnown}
 use Rattle.proto_safety.proofs.Places.{prefix_same, prefix_push, prefix_trans}
@@ -31,7 +31,7 @@ more_numbers n a js rise (suc d) is =
 prefix_behind : (xs ys zs : List Journaled) → IsPrefix ys zs → IsPrefix (xs ++ ys) (xs ++ zs)
 prefix_behind xs ys zs p = record { rest = p.rest; is = append_assoc xs ys p.rest ∙ ap (λ l. xs ++ l) p.is }
 
--- ---- closings only rise
+-- ---- committed_flows only rise
 
 closing_reach : (key : Key) (e m : ℕ) (c : Option ℕ) (more : List Entry) → Reaches c m → Reaches (fold (λ o x. greater o (number_in key e x)) c more) m
 closing_reach key e m c [] h = h
@@ -46,7 +46,7 @@ module _ (n : ℕ) (key : Key) (es more : List Entry) (items : List Journaled) (
   abbrev later : List Entry
   later = es ++ more
 
-  last_grows : (f : Flow) → flow_of n key es ≡ Some f → IsPrefix (closed_in key es items f.epoch) (closed_in key later items f.epoch)
+  last_grows : (f : FlowRecord) → flow_of n key es ≡ Some f → IsPrefix (closed_in key es items f.epoch) (closed_in key later items f.epoch)
   last_grows f flow =
       let old : closing_in key f.epoch es ≡ Some f.last = (closes n key es before).last f flow in
       let now : closing_in key f.epoch later ≡ fold (λ o x. greater o (number_in key f.epoch x)) (Some f.last) more =
@@ -56,7 +56,7 @@ module _ (n : ℕ) (key : Key) (es more : List Entry) (items : List Journaled) (
       subst (λ l. IsPrefix l (closed_in key later items f.epoch)) (sym (ap (λ c. filter (is_closed c) (journal_in key items f.epoch)) old))
       (subst (λ l. IsPrefix (up_to f.last (journal_in key items f.epoch)) l) (sym (ap (λ c. filter (is_closed c) (journal_in key items f.epoch)) (now ∙ r.1.0))) p)
 
-  some_grows : (f : Flow) → flow_of n key es ≡ Some f → IsPrefix (serial_in key es items) (serial_in key later items)
+  some_grows : (f : FlowRecord) → flow_of n key es ≡ Some f → IsPrefix (serial_in key es items) (serial_in key later items)
   some_grows f flow =
       let d = (closes n key es before).epochs f flow in
       let now : serial_in key later items ≡ (flat_map (closed_in key later items) d.0 ++ closed_in key later items f.epoch) ++ flat_map (closed_in key later items) (epochs_in key more) =
@@ -87,6 +87,6 @@ module _ (n : ℕ) (key : Key) (es more : List Entry) (items : List Journaled) (
   pub serial_book_grows : IsPrefix (serial_in key es items) (serial_in key later items)
   serial_book_grows = flow_case (flow_of n key es) refl
     where
-      flow_case : (o : Option Flow) → flow_of n key es ≡ o → IsPrefix (serial_in key es items) (serial_in key later items)
+      flow_case : (o : Option FlowRecord) → flow_of n key es ≡ o → IsPrefix (serial_in key es items) (serial_in key later items)
       flow_case None flow = subst (λ l. IsPrefix l (serial_in key later items)) (sym (serial_none n key es items before flow)) (record { rest = serial_in key later items; is = refl })
       flow_case (Some f) flow = some_grows f flow

@@ -12,7 +12,7 @@ use Rattle.proto_model.specs.Committed.{number_in, greater, epoch_granted, is_in
 use Rattle.proto_model.specs.ReplicaRows.{entry_key}
 use Rattle.proto_model.specs.World.{Journaled}
 use Rattle.proto_safety.specs.Books.{In}
-use Rattle.proto_safety.specs.Flows.{Flow, FitsFrom, flow_step, flow_from, flow_of}
+use Rattle.proto_safety.specs.Flows.{FlowRecord, FitsFrom, flow_step, flow_from, flow_of}
 use Rattle.proto_safety.specs.LeaseLaws.{HasEpoch}
 use Rattle.proto_safety.proofs.Tables.{same_key-refl}
 use Rattle.proto_safety.proofs.BookEpochs.{Stepped, other, first, next, put, snap, stepped, key_of_epoch}
@@ -77,11 +77,11 @@ no_grant key (Entry.Put k y number delta) h = refl
 no_grant key (Entry.Snap k y round values) h = refl
 
 -- what the entries so far say, by the flow that they leave
-pub record ClosedAt (key : Key) (es : List Entry) (o : Option Flow) : Type 0 where
+pub record ClosedAt (key : Key) (es : List Entry) (o : Option FlowRecord) : Type 0 where
   pub none : o ≡ None → (epochs_in key es ≡ []) × ((e : ℕ) → closing_in key e es ≡ None)
-  pub epochs : (f : Flow) → o ≡ Some f → (ds : List ℕ) × ((epochs_in key es ≡ ds ++ f.epoch ∷ []) × Each (λ d. d < f.epoch) ds)
-  pub last : (f : Flow) → o ≡ Some f → closing_in key f.epoch es ≡ Some f.last
-  pub later : (f : Flow) (e : ℕ) → o ≡ Some f → f.epoch < e → closing_in key e es ≡ None
+  pub epochs : (f : FlowRecord) → o ≡ Some f → (ds : List ℕ) × ((epochs_in key es ≡ ds ++ f.epoch ∷ []) × Each (λ d. d < f.epoch) ds)
+  pub last : (f : FlowRecord) → o ≡ Some f → closing_in key f.epoch es ≡ Some f.last
+  pub later : (f : FlowRecord) (e : ℕ) → o ≡ Some f → f.epoch < e → closing_in key e es ≡ None
 
 -- a closing after an entry without a number there
 pub same_closing : (key : Key) (e : ℕ) (es : List Entry) (x : Entry) → number_in key e x ≡ None → closing_in key e (es ++ x ∷ []) ≡ closing_in key e es
@@ -103,7 +103,7 @@ other_grant_number key e d switch inc nonce lt = no_number key d (Entry.Grant ke
 next_closing : (key : Key) (e l : ℕ) (x : Entry) (c : Option ℕ) → c ≡ Some l → number_in key e x ≡ Some (l + 1) → greater c (number_in key e x) ≡ Some (l + 1)
 next_closing key e l x c is k = let m : max l (l + 1) ≡ l + 1 = omega arith in rw (is, k) (ap Some m)
 
-closed_push : {n : ℕ} {key : Key} {o u : Option Flow} {x : Entry} (es : List Entry) → Stepped n key o x u → ClosedAt key es o → ClosedAt key (es ++ x ∷ []) u
+closed_push : {n : ℕ} {key : Key} {o u : Option FlowRecord} {x : Entry} (es : List Entry) → Stepped n key o x u → ClosedAt key es o → ClosedAt key (es ++ x ∷ []) u
 closed_push {key = key} {x = x} es (other ne) h =
     let number : (e : ℕ) → number_in key e x ≡ None = λ e. no_number key e x (λ k. both_ways _ ne (key_of_epoch key e x k)) in
     record {
@@ -162,7 +162,7 @@ closed_push {key = key} es (snap {f = g} {values = v}) h =
       later = λ f e is lt. let o : g.epoch ≡ f.epoch = cc in same_closing key e es x (no_number key e x (λ k. absurd (omega (arith, k.1)))) ∙ h.later g e refl (omega arith);
     }
 
-closed_from : (n : ℕ) (key : Key) (o : Option Flow) (es more : List Entry) → FitsFrom n key o more → ClosedAt key es o → ClosedAt key (es ++ more) (flow_from n key o more)
+closed_from : (n : ℕ) (key : Key) (o : Option FlowRecord) (es more : List Entry) → FitsFrom n key o more → ClosedAt key es o → ClosedAt key (es ++ more) (flow_from n key o more)
 closed_from n key o es [] fits h = rw (append-nil es) h
 closed_from n key o es (x ∷ xs) fits h =
     subst (λ l. ClosedAt key l (flow_from n key (flow_step n key o x) xs)) (append_assoc es (x ∷ []) xs)

@@ -11,9 +11,10 @@ use Rattle.rp_app.specs.Application.{Application}
 use Rattle.proto_model.specs.Table.{Key}
 use Rattle.proto_model.specs.Feeds.{Each, Pairwise}
 use Rattle.proto_model.specs.Committed.{epoch_granted, is_in, is_closed}
-use Rattle.proto_model.specs.World.{Fed, Journaled}
+use Rattle.proto_model.specs.World.{Journaled}
+use Rattle.rp_base.specs.declared.legality.Fed.{Fed}
 use Rattle.proto_safety.specs.Books.{In}
-use Rattle.proto_safety.specs.Flows.{Flow, FitsFrom, flow_step}
+use Rattle.proto_safety.specs.Flows.{FlowRecord, FitsFrom, flow_step}
 use Rattle.proto_safety.proofs.BookEpochs.{Stepped, other, first, next, put, snap, stepped, Above, in_middle}
 use Rattle.proto_safety.proofs.Chains.{each_in}
 use Rattle.proto_safety.proofs.FlowAlarm.{in_filter}
@@ -62,7 +63,7 @@ one_item (x ∷ xs) a b h (inr i) (inr j) e = one_item xs a b h.1 i j e
 
 -- ---- epochs rise
 
-pub epochs_rise : (n : ℕ) (key : Key) (o : Option Flow) (es : List Entry) → FitsFrom n key o es → Pairwise (λ a b. a < b) (epochs_in key es)
+pub epochs_rise : (n : ℕ) (key : Key) (o : Option FlowRecord) (es : List Entry) → FitsFrom n key o es → Pairwise (λ a b. a < b) (epochs_in key es)
 epochs_rise n key o [] fits = tt
 epochs_rise n key o (x ∷ xs) fits =
     subst (λ l. Pairwise (λ a b. a < b) l) (sym (filter_map-append (epoch_granted key) (x ∷ []) xs))
@@ -72,7 +73,7 @@ epochs_rise n key o (x ∷ xs) fits =
     above_one e [] h = tt
     above_one e (d ∷ ds) h = (omega (arith, h.0), above_one e ds h.1)
 
-    step_case : {o u : Option Flow} {x : Entry} → Stepped n key o x u → Each (λ d. Above u d) (epochs_in key xs) → Pairwise (λ a b. a < b) (epochs_in key xs) → Pairwise (λ a b. a < b) (epochs_in key (x ∷ []) ++ epochs_in key xs)
+    step_case : {o u : Option FlowRecord} {x : Entry} → Stepped n key o x u → Each (λ d. Above u d) (epochs_in key xs) → Pairwise (λ a b. a < b) (epochs_in key xs) → Pairwise (λ a b. a < b) (epochs_in key (x ∷ []) ++ epochs_in key xs)
     step_case {x = x} (other ne) above rest = let e : epochs_in key (x ∷ []) ≡ [] = rw (no_grant key x ne) refl in subst (λ l. Pairwise (λ a b. a < b) (l ++ epochs_in key xs)) (sym e) rest
     step_case (first {switch = s} {inc = i} {nonce = m}) above rest =
         let e : epochs_in key (Entry.Grant key 1 s i m ∷ []) ≡ 1 ∷ [] = rw (same_key-refl key) refl in

@@ -11,7 +11,7 @@ use Rattle.proto_data.specs.declared.message.Entry.{Entry}
 use Rattle.proto_data.specs.declared.message.Input.{Input}
 use Rattle.proto_data.specs.declared.message.Carried.{Carried}
 use Rattle.rp_app.specs.Application.{Application, Delta, IsApplication, IsOutputOf, after, zeros}
-use Rattle.proto_model.specs.Carrying.{packet_of, carried_output, output_of}
+use Rattle.proto_data.specs.Carrying.{packet_of, carried_output, output_of}
 use Rattle.proto_model.specs.Effects.{added, made_output}
 use Rattle.proto_model.specs.Table.{Key, same_key}
 use Rattle.proto_model.specs.Feeds.{packet_at, key_at}
@@ -19,9 +19,10 @@ use Rattle.proto_model.specs.Committed.{committed_book, closing_of, is_closed}
 use Rattle.proto_model.specs.Slot.{Slot}
 use Rattle.proto_model.specs.SwitchState.{Switch, SwitchDid, Item, lapsed, head_node, has_copies}
 use Rattle.proto_model.specs.SwitchRow.{SwitchRow, Direct, Late, asked_mark, switch_row}
-use Rattle.proto_model.specs.SwitchActs.{perform, item_of, late_did}
+use Rattle.proto_model.specs.SwitchOutcomes.{perform, item_of, late_did}
 use Rattle.proto_model.specs.SwitchRows.{switch_step}
-use Rattle.proto_model.specs.World.{World, SwitchNode, Fed, Journaled}
+use Rattle.proto_model.specs.World.{World, SwitchNode, Journaled}
+use Rattle.rp_base.specs.declared.legality.Fed.{Fed}
 use Rattle.proto_safety.specs.Books.{In, IsPrefix, committed_of}
 use Rattle.proto_safety.specs.Flows.{AckedIn}
 use Rattle.proto_safety.specs.Loads.{IsItemOutput}
@@ -40,7 +41,7 @@ use Rattle.proto_safety.proofs.SerialLists.{closing_in, epochs_in, closed_in, se
 use Rattle.proto_safety.proofs.SwitchCells.{ready_from}
 use Rattle.proto_safety.proofs.SwitchItems.{own_serial}
 use Rattle.proto_safety.proofs.FlowCells.{other_journal, not_in_key}
-use Rattle.proto_safety.proofs.SwitchTable.{Acts, Ready, msg, direct, mirrored, snapped, acked, late, row_acts, late_item}
+use Rattle.proto_safety.proofs.SwitchTable.{RowTaken, Ready, msg, direct, mirrored, snapped, acked, late, row_taken, late_item}
 use Rattle.proto_safety.proofs.SwitchTable.{keyless as row_keyless}
 use Rattle.proto_safety.proofs.Tables.{same_key-true}
 use Rattle.proto_safety.proofs.WorldOutputs.{output_mark}
@@ -102,7 +103,7 @@ module _ (app : Application) (w : World) (feeds : List Fed) (n : ℕ) (node : Sw
           of_item key x.item (serial_member key es items epoch d g.0 g.1.0 g.1.1.0 x.item g.1.1.1 closing low x.there x.key_is x.epoch_is) (x.mark_is ∙ mark) (x.output_is ∙ ap Some out) (ap (λ m. key_at app feeds m) (sym mark) ∙ key_is)
       granted_case (inr f) d closing low = let no : None ≡ Some f.0 = f.1.0 in cc
 
-  row_shown : (event : ℕ) (i : Input) (row : SwitchRow) → Acts app s node.clock i row → input ≡ i → (o : Output) → (perform s node.clock row).1.released ≡ Some o → Shown app feeds es (more event (perform s node.clock row).1) o
+  row_shown : (event : ℕ) (i : Input) (row : SwitchRow) → RowTaken app s node.clock i row → input ≡ i → (o : Output) → (perform s node.clock row).1.released ≡ Some o → Shown app feeds es (more event (perform s node.clock row).1) o
   row_shown event i row (row_keyless {p = p} of) came o out =
       let fed_at : packet_at feeds p.mark ≡ Some p = subst (λ x. Brought w feeds n x) came brought in
       let h : IsOutputOf p (Some o) = subst (λ m. IsOutputOf p m) out (is.outputs (zeros app.cell_count) p (length-replicate app.cell_count 0)) in
@@ -122,7 +123,7 @@ module _ (app : Application) (w : World) (feeds : List Fed) (n : ℕ) (node : Sw
   row_shown event i row a came o out = cc
 
   pub step_shown : (event : ℕ) (o : Output) → (switch_step app node.state node.clock input).1.released ≡ Some o → Shown app feeds es (more event (switch_step app node.state node.clock input).1) o
-  step_shown event o out = row_shown event input (switch_row app s node.clock input) (row_acts app s node.clock input) refl o out
+  step_shown event o out = row_shown event input (switch_row app s node.clock input) (row_taken app s node.clock input) refl o out
 
   -- ---- the serial list
 
@@ -149,7 +150,7 @@ module _ (app : Application) (w : World) (feeds : List Fed) (n : ℕ) (node : Sw
           flat_map_same (closed_in x es (items ++ j ∷ [])) (closed_in x es items) (epochs_in x es) (λ d i. ap (λ l. filter (is_closed (closing_in x d es)) l) (other_journal app feeds es items j x d (not_in_key app feeds es items j x d other))) in
           subst (λ l. IsPrefix (serial_in x es items) l) (sym same) (prefix_same (serial_in x es items))
 
-  row_serial : (event : ℕ) (i : Input) (row : SwitchRow) → Acts app s node.clock i row → input ≡ i → (x : Key) → IsPrefix (serial_in x es items) (serial_in x es (more event (perform s node.clock row).1))
+  row_serial : (event : ℕ) (i : Input) (row : SwitchRow) → RowTaken app s node.clock i row → input ≡ i → (x : Key) → IsPrefix (serial_in x es items) (serial_in x es (more event (perform s node.clock row).1))
   row_serial event i row (direct {key = key} {slot = slot} {epoch = epoch} {p = p} {made = made} r m e clean alone) came x =
       item_serial i key slot epoch p made r came e (record { event = event; item = item_of key epoch p.mark slot.last node.clock made.0; output = made_output made.1 [] }) slot.last refl
       (made_direct app w feeds n node input facts hold at up brought carried made.1) (omega arith) x
@@ -162,4 +163,4 @@ module _ (app : Application) (w : World) (feeds : List Fed) (n : ℕ) (node : Sw
   row_serial event i row a came x = idle_serial event row x refl
 
   pub step_serial : (event : ℕ) (x : Key) → IsPrefix (serial_in x es items) (serial_in x es (more event (switch_step app node.state node.clock input).1))
-  step_serial event x = row_serial event input (switch_row app s node.clock input) (row_acts app s node.clock input) refl x
+  step_serial event x = row_serial event input (switch_row app s node.clock input) (row_taken app s node.clock input) refl x

@@ -11,14 +11,14 @@ use Rattle.proto_model.specs.Slot.{Slot, Lease, Idle, Asking, Held, Lapsed, laps
 use Rattle.proto_model.specs.SwitchState.{Switch, lapsed}
 use Rattle.proto_model.specs.SwitchAlarm.{alarm, Walk, walk_order}
 use Rattle.proto_model.specs.SwitchRow.{SwitchRow, NewAsk, AskAgain, Drops, Direct, Mirrored, Granted, Late, Acked, RoundDone, Denied, Busied, Resends, switch_row, has_epoch}
-use Rattle.proto_model.specs.SwitchActs.{perform}
+use Rattle.proto_model.specs.SwitchOutcomes.{perform}
 use Rattle.proto_model.specs.SwitchRows.{switch_step}
 use Rattle.proto_model.specs.Feeds.{Each}
 use Rattle.proto_model.specs.World.{World, Setup, SwitchNode, opened, below, open_switch_node}
 use Rattle.proto_model.specs.WorldStep.{advanced_switches}
 use Rattle.proto_safety.proofs.Lists.{each_at, each_set, each_changed, each_map}
 use Rattle.proto_safety.proofs.Tables.{get-put_same, get-put_other, get-map_values, same_key-true, same_some}
-use Rattle.proto_safety.proofs.SwitchTable.{Acts, Ready, fed, at_grant, at_grant_again, ask_again, no_copy_room, direct, mirrored, snapped, too_old, granted_only, acked, round_done, busied, row_acts}
+use Rattle.proto_safety.proofs.SwitchTable.{RowTaken, Ready, fed, at_grant, at_grant_again, ask_again, no_copy_room, direct, mirrored, snapped, too_old, granted_only, acked, round_done, busied, row_taken}
 use Rattle.proto_safety.proofs.AlarmInduction.{WalkKeeps, walk_kept}
 use Rattle.proto_safety.proofs.Copies.{is_leased}
 use Rattle.proto_safety.proofs.Induction.{Keeps}
@@ -85,7 +85,7 @@ alarm_whole n s now h = walk_kept now (λ (w : Walk). Whole n w.state.slots) (wa
 
 -- ---- rows
 
-row_whole : (app : Application) (s : Switch) (now : ℕ) {input : Input} (row : SwitchRow) → Acts app s now input row → Whole app.cell_count s.slots → Whole app.cell_count (perform s now row).0.slots
+row_whole : (app : Application) (s : Switch) (now : ℕ) {input : Input} (row : SwitchRow) → RowTaken app s now input row → Whole app.cell_count s.slots → Whole app.cell_count (perform s now row).0.slots
 row_whole app s now (NewAsk key slot packet) f h = put_whole _ s.slots key _ (λ l. absurd (false≢true l)) h
 row_whole app s now (AskAgain key slot nonce packet) (ask_again of at is young) h = put_whole _ s.slots key _ (h key slot at) h
 row_whole app s now (Drops key slot mark cause) (no_copy_room r m full) h = put_whole _ s.slots key _ (λ l. ready_whole app s now h r) h
@@ -104,7 +104,7 @@ row_whole app s now _ f h = h
 
 pub step_whole : (app : Application) (s : Switch) (now : ℕ) (input : Input) → Whole app.cell_count s.slots → Whole app.cell_count (switch_step app s now input).0.slots
 step_whole app s now input h =
-    row_whole app (lapsed now s) now (switch_row app (lapsed now s) now input) (row_acts app (lapsed now s) now input) (lapsed_whole app.cell_count now s.slots h)
+    row_whole app (lapsed now s) now (switch_row app (lapsed now s) now input) (row_taken app (lapsed now s) now input) (lapsed_whole app.cell_count now s.slots h)
 
 -- ---- the world
 

@@ -10,7 +10,7 @@ use Rattle.proto_model.specs.Table.{Key, Table, same_key, get, put}
 use Rattle.proto_model.specs.Slot.{Slot, Lease, Round, Idle, Asking, Held, Lapsed, epoch_of, lapsed_lease}
 use Rattle.proto_model.specs.SwitchState.{Copy, is_of}
 use Rattle.proto_model.specs.SwitchRow.{has_epoch}
-use Rattle.proto_model.specs.SwitchActs.{acked_lease}
+use Rattle.proto_model.specs.SwitchOutcomes.{acked_lease}
 use Rattle.proto_safety.specs.Books.{In}
 use Rattle.proto_safety.specs.LeaseLaws.{Request, AskOf, NumberOf, First}
 use Rattle.proto_safety.proofs.FirstSendings.{Made, sending}

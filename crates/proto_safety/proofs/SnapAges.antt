@@ -22,7 +22,8 @@ use Rattle.std.proofs.lemmas.List.{map-append}
 use Rattle.proto_model.specs.Feeds.{Each}
 use Rattle.proto_model.specs.Committed.{is_in}
 use Rattle.proto_model.specs.Slot.{Slot, Held, chunk_count, epoch_of, Round, Ages, first_of_two, young_enough, may, updated, acknowledged}
-use Rattle.proto_model.specs.World.{Fed, Journaled, RoundBegun}
+use Rattle.proto_model.specs.World.{Journaled, RoundBegun}
+use Rattle.rp_base.specs.declared.legality.Fed.{Fed}
 use Rattle.proto_safety.specs.LossLaws.{Covers, AgesCover, AgesPast, items_behind, round_at}
 use Rattle.proto_safety.proofs.Lists.{each_all, each_append, each_weaker}
 

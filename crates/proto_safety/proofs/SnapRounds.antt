@@ -11,7 +11,8 @@ use Rattle.proto_model.specs.Table.{Key}
 use Rattle.proto_model.specs.Slot.{chunk_count, chunk_of}
 use Rattle.proto_model.specs.Feeds.{Each, Pairwise}
 use Rattle.proto_model.specs.Committed.{is_in}
-use Rattle.proto_model.specs.World.{SwitchNode, Fed, Journaled, RoundBegun}
+use Rattle.proto_model.specs.World.{SwitchNode, Journaled, RoundBegun}
+use Rattle.rp_base.specs.declared.legality.Fed.{Fed}
 use Rattle.proto_safety.specs.Books.{In}
 use Rattle.proto_safety.specs.Origins.{ChunkSent, SnapSent}
 use Rattle.proto_safety.specs.LossLaws.{round_at, kept_front, cells_over, RoundIs, ChunkIs, RoundTurn}
@@ -20,7 +21,7 @@ use Rattle.proto_safety.proofs.FlowSerial.{EachMade}
 use Rattle.proto_safety.proofs.SnapSlots.{SnapTable, SnapSays}
 use Rattle.proto_safety.proofs.SwitchNodes.{AllAt}
 use Rattle.proto_safety.proofs.Tables.{same_some}
-use Rattle.proto_safety.proofs.WorldPuts.{PutFrame}
+use Rattle.proto_safety.proofs.WorldPuts.{NumberFrame}
 
 -- ---- chunks
 
@@ -47,7 +48,7 @@ pub record SnapHold (app : Application) (feeds : List Fed) (es : List Entry) (it
   pub made : (key : Key) (e : ℕ) → EachMade app feeds key (kept_front key es items rounds e) (filter (is_in key e) items)
   pub turns : Pairwise RoundTurn rounds
   pub within : Each (λ (b : RoundBegun). b.items_before ≤ length items) rounds
-  pub begun : (b : RoundBegun) → In rounds b → (1 ≤ b.begun.round) × ((n : ℕ) × ((inc : ℕ) × PutFrame frames n inc b.begun.key b.begun.epoch b.begun.round))
+  pub begun : (b : RoundBegun) → In rounds b → (1 ≤ b.begun.round) × ((n : ℕ) × ((inc : ℕ) × NumberFrame frames n inc b.begun.key b.begun.epoch b.begun.round))
 
 module _ (app : Application) (feeds : List Fed) (es : List Entry) (items : List Journaled) (rounds : List RoundBegun) (frames : List Msg) (says : Each (λ (m : Msg). SnapSays app feeds es items rounds m.body) frames) where
   chunk_says : (key : Key) (e number chunk chunks : ℕ) (part : List ℕ) → ChunkSent frames key e number chunk chunks part → ChunkIs app feeds es items rounds key e number chunk chunks part

@@ -112,9 +112,9 @@ cells_of_snaps app bound w e h =
       within = h.within;
     }
 
-module _ (app : Application) (setup : Setup) (bound : ℕ) (mode : setup.terms.mode ≡ Mode.Snapshot bound) (hold : TermsHold setup.terms.t_switch setup.terms.t_store setup.terms.ratio) (some : 1 ≤ setup.terms.t_store) where
+module _ (app : Application) (setup : Setup) (bound : ℕ) (mode : setup.terms.mode ≡ Mode.Snapshot bound) (hold : TermsHold setup.terms.t_switch setup.terms.t_store setup.terms.ratio) where
   start : Ended app bound (opened app.cell_count setup)
-  start = ((opened_standing app setup, ((record { within = tt; differ = tt }, tt), (all_copyless app setup [], mode))), ([], opened_ending app setup hold some))
+  start = ((opened_standing app setup, ((record { within = tt; differ = tt }, tt), (all_copyless app setup [], mode))), ([], opened_ending app setup hold))
 
   pub celled_after : (events : List Event) → Celled app bound (world_after app (opened app.cell_count setup) events)
   celled_after events = run_kept app (Celled app bound) (celled_kept app bound) events (opened app.cell_count setup) (start, opened_snaps app setup)

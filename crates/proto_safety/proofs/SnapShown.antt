@@ -8,16 +8,18 @@ use Rattle.rp_base.specs.declared.node.Packet.{Packet}
 use Rattle.rp_base.specs.declared.node.Output.{Output}
 use Rattle.proto_data.specs.declared.message.Input.{Input}
 use Rattle.proto_data.specs.declared.message.Body.{Body}
-use Rattle.proto_safety.specs.Flows.{Flow, flow_of}
+use Rattle.proto_safety.specs.Flows.{FlowRecord, flow_of}
 use Rattle.proto_data.specs.declared.message.Carried.{Carried}
 use Rattle.rp_app.specs.Application.{Application, IsApplication}
-use Rattle.proto_model.specs.Carrying.{packet_of}
+use Rattle.proto_data.specs.Carrying.{packet_of}
 use Rattle.proto_model.specs.Table.{Key}
 use Rattle.proto_model.specs.Effects.{added, made_output}
 use Rattle.proto_model.specs.Feeds.{Each, Pairwise, fed_at, packet_at}
 use Rattle.proto_model.specs.SwitchState.{Item, SwitchStep}
 use Rattle.proto_model.specs.SwitchRows.{switch_step}
-use Rattle.proto_model.specs.World.{World, SwitchNode, Fed, Journaled, Released}
+use Rattle.proto_model.specs.World.{World, SwitchNode, Journaled}
+use Rattle.rp_base.specs.declared.legality.Fed.{Fed}
+use Rattle.rp_base.specs.declared.legality.Released.{Released}
 use Rattle.proto_safety.specs.Books.{In, committed_of}
 use Rattle.proto_safety.specs.LossLaws.{ReleasedBy, keyless, by_item}
 use Rattle.proto_safety.proofs.CellsGround.{items_known}
@@ -131,10 +133,10 @@ module _ (app : Application) (bound : ℕ) (w : World) (c : Celled app bound w) 
           ),
         )
       where
-        epoch_low : (x : Item) (fl : Flow) → flow_of app.cell_count x.key (committed_of w.replicas) ≡ Some fl → fl.epoch ≡ x.epoch → (i : Journaled) → In items i → i.item.key ≡ x.key → i.item.epoch ≤ x.epoch
+        epoch_low : (x : Item) (fl : FlowRecord) → flow_of app.cell_count x.key (committed_of w.replicas) ≡ Some fl → fl.epoch ≡ x.epoch → (i : Journaled) → In items i → i.item.key ≡ x.key → i.item.epoch ≤ x.epoch
         epoch_low x fl flow epoch i there same =
             let k = (items_known app w f.settled f.ends x.key).granted i there same in
-            let e : k.0 ≡ fl = cc (sym k.1.0 ∙ flow) in omega (arith, k.1.1, epoch, ap (λ (y : Flow). y.epoch) e)
+            let e : k.0 ≡ fl = cc (sym k.1.0 ∙ flow) in omega (arith, k.1.1, epoch, ap (λ (y : FlowRecord). y.epoch) e)
 
         first_case : (x : Item) (g : Fed) → fed_at feeds x.mark ≡ Some g → g.event ≤ event → (i : Journaled) → In items i ⊎ In (record { event = event; item = x; output = made_output step.1.released step.1.sent } ∷ []) i → (g : Fed) × ((fed_at feeds i.item.mark ≡ Some g) × (g.event ≤ i.event))
         first_case x g at_g le i (inl k) = old_first i k

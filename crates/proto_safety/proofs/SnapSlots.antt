@@ -17,10 +17,11 @@ use Rattle.proto_model.specs.SwitchAlarm.{Walk, chunk_sent}
 use Rattle.proto_model.specs.Feeds.{Each, Pairwise}
 use Rattle.proto_model.specs.Committed.{is_in}
 use Rattle.proto_model.specs.Kept.{is_round}
-use Rattle.proto_model.specs.World.{Fed, Journaled, RoundBegun}
+use Rattle.proto_model.specs.World.{Journaled, RoundBegun}
+use Rattle.rp_base.specs.declared.legality.Fed.{Fed}
 use Rattle.proto_data.specs.declared.terms.Mode.{Mode}
 use Rattle.proto_safety.specs.Books.{In}
-use Rattle.proto_safety.specs.Flows.{Flow, flow_of}
+use Rattle.proto_safety.specs.Flows.{FlowRecord, flow_of}
 use Rattle.proto_safety.specs.LossLaws.{round_at, kept_front, cells_over, RoundIs, ChunkIs, SnapStands, RoundTurn}
 use Rattle.proto_safety.proofs.AlarmInduction.{WalkKeeps, new_round, round_slot}
 use Rattle.proto_safety.proofs.CellFacts.{GrantedTo}
@@ -94,7 +95,7 @@ module _ (app : Application) (feeds : List Fed) (es : List Entry) (items : List 
 
   -- ---- one more item
 
-  pub item_onto : (rounds : List RoundBegun) (j : Journaled) (f : Flow) (key : Key) (e : ℕ) → GrantedTo app.cell_count es key e → flow_of app.cell_count j.item.key es ≡ Some f → f.epoch ≡ j.item.epoch →
+  pub item_onto : (rounds : List RoundBegun) (j : Journaled) (f : FlowRecord) (key : Key) (e : ℕ) → GrantedTo app.cell_count es key e → flow_of app.cell_count j.item.key es ≡ Some f → f.epoch ≡ j.item.epoch →
       Onto app feeds feeds es es items (items ++ j ∷ []) rounds rounds key e
   item_onto rounds j f key e g flow epoch =
       record {
@@ -112,7 +113,7 @@ module _ (app : Application) (feeds : List Fed) (es : List Entry) (items : List 
           let key_is : j.item.key ≡ key = same_key-true j.item.key key p.0 in
           let epoch_is : j.item.epoch ≡ d = eqb-true j.item.epoch d p.1 in
           let same : f ≡ g.flow = cc (sym flow ∙ (ap (λ k. flow_of app.cell_count k es) key_is ∙ g.flow_is)) in
-          absurd (omega (arith, g.reached, epoch, epoch_is, lt, ap (λ (x : Flow). x.epoch) same))
+          absurd (omega (arith, g.reached, epoch, epoch_is, lt, ap (λ (x : FlowRecord). x.epoch) same))
 
       same_front : kept_front key es (items ++ j ∷ []) rounds e ≡ kept_front key es items rounds e
       same_front = front_item key es items rounds j e (λ d lt. never d lt (is_in key d j) refl)
@@ -125,7 +126,7 @@ module _ (app : Application) (feeds : List Fed) (es : List Entry) (items : List 
   journal_own key e j own = filter-append (is_in key e) items (j ∷ []) ∙ rw own refl
 
   -- the front of an epoch with one more item
-  pub item_front : (rounds : List RoundBegun) (j : Journaled) (f : Flow) (key : Key) (e : ℕ) → GrantedTo app.cell_count es key e → flow_of app.cell_count j.item.key es ≡ Some f → f.epoch ≡ j.item.epoch → kept_front key es (items ++ j ∷ []) rounds e ≡ kept_front key es items rounds e
+  pub item_front : (rounds : List RoundBegun) (j : Journaled) (f : FlowRecord) (key : Key) (e : ℕ) → GrantedTo app.cell_count es key e → flow_of app.cell_count j.item.key es ≡ Some f → f.epoch ≡ j.item.epoch → kept_front key es (items ++ j ∷ []) rounds e ≡ kept_front key es items rounds e
   item_front rounds j f key e g flow epoch = front_item key es items rounds j e (λ d lt. never d lt (is_in key d j) refl)
     where
       never : (d : ℕ) → d < e → (t : Bool) → is_in key d j ≡ t → t ≡ false
@@ -135,9 +136,9 @@ module _ (app : Application) (feeds : List Fed) (es : List Entry) (items : List 
           let key_is : j.item.key ≡ key = same_key-true j.item.key key p.0 in
           let epoch_is : j.item.epoch ≡ d = eqb-true j.item.epoch d p.1 in
           let same : f ≡ g.flow = cc (sym flow ∙ (ap (λ k. flow_of app.cell_count k es) key_is ∙ g.flow_is)) in
-          absurd (omega (arith, g.reached, epoch, epoch_is, lt, ap (λ (x : Flow). x.epoch) same))
+          absurd (omega (arith, g.reached, epoch, epoch_is, lt, ap (λ (x : FlowRecord). x.epoch) same))
 
-  pub item_stands : (rounds : List RoundBegun) (j : Journaled) (f : Flow) (key : Key) (slot : Slot) (e : ℕ) → GrantedTo app.cell_count es key e → flow_of app.cell_count j.item.key es ≡ Some f → f.epoch ≡ j.item.epoch → is_in key e j ≡ false →
+  pub item_stands : (rounds : List RoundBegun) (j : Journaled) (f : FlowRecord) (key : Key) (slot : Slot) (e : ℕ) → GrantedTo app.cell_count es key e → flow_of app.cell_count j.item.key es ≡ Some f → f.epoch ≡ j.item.epoch → is_in key e j ≡ false →
       SnapStands app feeds es items rounds key slot e → SnapStands app feeds es (items ++ j ∷ []) rounds key slot e
   item_stands rounds j f key slot e g flow epoch out h =
       stands_onto app feeds feeds es es items (items ++ j ∷ []) rounds rounds key e (item_onto rounds j f key e g flow epoch) slot
@@ -147,7 +148,7 @@ module _ (app : Application) (feeds : List Fed) (es : List Entry) (items : List 
 
   -- the flow's present epoch
   pub record Top (key : Key) (e : ℕ) : Type 0 where
-    pub flow : Flow
+    pub flow : FlowRecord
     pub flow_is : flow_of app.cell_count key es ≡ Some flow
     pub epoch_is : flow.epoch ≡ e
 
@@ -169,7 +170,7 @@ module _ (app : Application) (feeds : List Fed) (es : List Entry) (items : List 
           let key_is : b.begun.key ≡ key = same_key-true b.begun.key key p.0 in
           let epoch_is : b.begun.epoch ≡ d = eqb-true b.begun.epoch d (and_parts _ _ p.1).0 in
           let same : t.flow ≡ g.flow = cc (sym t.flow_is ∙ (ap (λ k. flow_of app.cell_count k es) key_is ∙ g.flow_is)) in
-          absurd (omega (arith, g.reached, t.epoch_is, epoch_is, lt, ap (λ (f : Flow). f.epoch) same))
+          absurd (omega (arith, g.reached, t.epoch_is, epoch_is, lt, ap (λ (f : FlowRecord). f.epoch) same))
 
   pub rounds_onto : (rounds bs : List RoundBegun) (key : Key) (e : ℕ) → GrantedTo app.cell_count es key e → ((b : RoundBegun) → In bs b → Top b.begun.key b.begun.epoch) → Onto app feeds feeds es es items items rounds (rounds ++ bs) key e
   rounds_onto rounds bs key e g tops =

@@ -12,7 +12,7 @@ use Rattle.proto_data.specs.declared.message.Input.{Input}
 use Rattle.proto_data.specs.declared.message.Carried.{Carried}
 use Rattle.proto_data.specs.declared.terms.Mode.{Mode}
 use Rattle.rp_app.specs.Application.{Application, IsApplication, IsOutputOf, Delta, written, zeros}
-use Rattle.proto_model.specs.Carrying.{packet_of}
+use Rattle.proto_data.specs.Carrying.{packet_of}
 use Rattle.proto_model.specs.Table.{Key, Table, same_key, put}
 use Rattle.proto_model.specs.Effects.{added, made_output}
 use Rattle.proto_model.specs.Feeds.{Each, Pairwise, packet_at}
@@ -21,9 +21,10 @@ use Rattle.proto_model.specs.Slot.{Slot, Lease, Round, Idle, Asking, Held, Lapse
 use Rattle.proto_model.specs.SwitchState.{Switch, SwitchDid, Copy, Item, Begun, slot_at, lapsed}
 use Rattle.proto_model.specs.SwitchAlarm.{Walk, resent, resent_put, repeated_ask, repeated_asks, due_copies, other_copies, walk_order, walked_slots}
 use Rattle.proto_model.specs.SwitchRow.{SwitchRow, asked_mark, Keyless, NoRoom, NewAsk, AskAgain, Drops, Granted, Late, RoundDone, Denied, Busied, Adopts, Resends, Stale, switch_row, is_clean, without_asked, Direct, Mirrored, Acked}
-use Rattle.proto_model.specs.SwitchActs.{perform, item_of, late_did}
+use Rattle.proto_model.specs.SwitchOutcomes.{perform, item_of, late_did}
 use Rattle.proto_model.specs.SwitchRows.{switch_step}
-use Rattle.proto_model.specs.World.{World, SwitchNode, Fed, Journaled, RoundBegun}
+use Rattle.proto_model.specs.World.{World, SwitchNode, Journaled, RoundBegun}
+use Rattle.rp_base.specs.declared.legality.Fed.{Fed}
 use Rattle.proto_safety.specs.Books.{In, committed_of}
 use Rattle.proto_safety.specs.Flows.{FitsFrom, flow_of}
 use Rattle.proto_safety.specs.LossLaws.{round_at, kept_front, cells_over, SnapStands, RoundTurn, ReleasedBy, keyless, by_item}
@@ -56,9 +57,9 @@ use Rattle.proto_safety.proofs.SnapRounds.{SnapHold, snap_round}
 use Rattle.proto_safety.proofs.SnapSlots.{SnapTable, SnapSays, Top, WalkSnaps, RoundSent, made_round, put_snap, kept_snap, unleased_snap, item_onto, item_front, item_stands, journal_other, journal_own, rounds_front, rounds_stand, rounds_say, walk_snaps, round_onto, chunk_onto}
 use Rattle.proto_safety.proofs.SwitchNodes.{AllAt}
 use Rattle.proto_safety.proofs.SwitchSays.{step_says}
-use Rattle.proto_safety.proofs.SwitchTable.{Acts, Ready, Timely, msg, fed, at_grant, at_grant_again, ask_again, no_copy_room, direct, mirrored, snapped, too_old, granted_only, late, acked, round_done, busied, keyless as row_keyless, row_acts}
+use Rattle.proto_safety.proofs.SwitchTable.{RowTaken, Ready, Timely, msg, fed, at_grant, at_grant_again, ask_again, no_copy_room, direct, mirrored, snapped, too_old, granted_only, late, acked, round_done, busied, keyless as row_keyless, row_taken}
 use Rattle.proto_safety.proofs.Tables.{same_key-true, same_key-refl}
-use Rattle.proto_safety.proofs.WorldPuts.{NumberIn, PutFrame}
+use Rattle.proto_safety.proofs.WorldPuts.{NumberIn, NumberFrame}
 use Rattle.proto_safety.proofs.SwitchWas.{step_item}
 use Rattle.proto_safety.proofs.Induction.{Comes}
 
@@ -194,8 +195,8 @@ module _ (app : Application) (w : World) (feeds : List Fed) (n bound : ℕ) (nod
       node_case (inl same) = rw same.1 own
       node_case (inr there) = others m x there.0 there.1
 
-  more_begun : (sent : List Msg) (r : RoundBegun) → (1 ≤ r.begun.round) × ((m : ℕ) × ((inc : ℕ) × PutFrame w.frames m inc r.begun.key r.begun.epoch r.begun.round)) →
-      (1 ≤ r.begun.round) × ((m : ℕ) × ((inc : ℕ) × PutFrame (w.frames ++ sent) m inc r.begun.key r.begun.epoch r.begun.round))
+  more_begun : (sent : List Msg) (r : RoundBegun) → (1 ≤ r.begun.round) × ((m : ℕ) × ((inc : ℕ) × NumberFrame w.frames m inc r.begun.key r.begun.epoch r.begun.round)) →
+      (1 ≤ r.begun.round) × ((m : ℕ) × ((inc : ℕ) × NumberFrame (w.frames ++ sent) m inc r.begun.key r.begun.epoch r.begun.round))
   more_begun sent r h = let p = h.1.1.1 in (h.0, (h.1.0, (h.1.1.0, record { msg = p.msg; there = in_front w.frames sent p.msg p.there; from_is = p.from_is; number_in = p.number_in })))
 
   -- nothing is processed, and no round begins
@@ -446,12 +447,12 @@ module _ (app : Application) (w : World) (feeds : List Fed) (n bound : ℕ) (nod
           begun = λ q i. begun_case q (in_append rounds (map mark_round walked.begun) q i);
         }
       where
-        begun_case : (q : RoundBegun) → In rounds q ⊎ In (map mark_round walked.begun) q → (1 ≤ q.begun.round) × ((m : ℕ) × ((inc : ℕ) × PutFrame (w.frames ++ walked.sent) m inc q.begun.key q.begun.epoch q.begun.round))
+        begun_case : (q : RoundBegun) → In rounds q ⊎ In (map mark_round walked.begun) q → (1 ≤ q.begun.round) × ((m : ℕ) × ((inc : ℕ) × NumberFrame (w.frames ++ walked.sent) m inc q.begun.key q.begun.epoch q.begun.round))
         begun_case q (inl i) = more_begun walked.sent q (hold.begun q i)
         begun_case q (inr i) =
             let c = in_map mark_round walked.begun q i in
             let r : RoundSent app feeds es items event bound rounds walked.sent c.0 = after.begun c.0 c.1.0 in
-            subst (λ (y : RoundBegun). (1 ≤ y.begun.round) × ((m : ℕ) × ((inc : ℕ) × PutFrame (w.frames ++ walked.sent) m inc y.begun.key y.begun.epoch y.begun.round))) c.1.1
+            subst (λ (y : RoundBegun). (1 ≤ y.begun.round) × ((m : ℕ) × ((inc : ℕ) × NumberFrame (w.frames ++ walked.sent) m inc y.begun.key y.begun.epoch y.begun.round))) c.1.1
             (r.some, (n, (r.inc, record { msg = r.msg; there = to_append w.frames walked.sent r.msg (inr r.there); from_is = (each_in (SentNow walked.state) walked.sent r.msg says r.there).0 ∙ ap (λ x. Node.Switch x) me; number_in = r.number_in })))
 
     -- ---- every row
@@ -483,7 +484,7 @@ module _ (app : Application) (w : World) (feeds : List Fed) (n bound : ℕ) (nod
         put_snap app feeds es items rounds s.slots key slot (λ k v e ne found of. before k v e found of)
         (λ e of. let held = ready_held r in let same : epoch ≡ e = cc (ap epoch_of (sym held.1.1) ∙ of) in subst (λ x. SnapStands app feeds es items rounds key slot x) same (live_from i key slot epoch p r came).stands)
 
-    row_hold : (i : Input) (row : SwitchRow) → Acts app s node.clock i row → input ≡ i → Each (SentNow (perform s node.clock row).0) (perform s node.clock row).1.sent → (perform s node.clock row).0.me ≡ n → Left (perform s node.clock row).1 (perform s node.clock row).0
+    row_hold : (i : Input) (row : SwitchRow) → RowTaken app s node.clock i row → input ≡ i → Each (SentNow (perform s node.clock row).0) (perform s node.clock row).1.sent → (perform s node.clock row).0.me ≡ n → Left (perform s node.clock row).1 (perform s node.clock row).0
     row_hold i (Keyless out) a came says me = quiet_as (perform s node.clock (Keyless out)).1 s refl refl before tt
     row_hold i (NoRoom mark) a came says me = quiet_as (perform s node.clock (NoRoom mark)).1 s refl refl before tt
     row_hold i (NewAsk key slot packet) a came says me =
@@ -519,7 +520,7 @@ module _ (app : Application) (w : World) (feeds : List Fed) (n bound : ℕ) (nod
 
     pub step_hold : Left (switch_step app node.state node.clock input).1 (switch_step app node.state node.clock input).0
     step_hold =
-        row_hold input (switch_row app s node.clock input) (row_acts app s node.clock input) refl (step_says app node.state node.clock input ((known app w b o).tidy n node at)) ((step_same app node.state node.clock input).me ∙ (known app w b o).me n node at)
+        row_hold input (switch_row app s node.clock input) (row_taken app s node.clock input) refl (step_says app node.state node.clock input ((known app w b o).tidy n node at)) ((step_same app node.state node.clock input).me ∙ (known app w b o).me n node at)
 
   -- ---- what is processed and released
 
@@ -529,7 +530,7 @@ module _ (app : Application) (w : World) (feeds : List Fed) (n bound : ℕ) (nod
     pub packet : Packet
     pub fed_at : packet_at feeds x.mark ≡ Some packet
 
-  row_item : (i : Input) (row : SwitchRow) → Acts app s node.clock i row → input ≡ i → (x : Item) → (perform s node.clock row).1.item ≡ Some x → Processed x
+  row_item : (i : Input) (row : SwitchRow) → RowTaken app s node.clock i row → input ≡ i → (x : Item) → (perform s node.clock row).1.item ≡ Some x → Processed x
   row_item i row (direct r m e clean alone) came x out = absurd (not_strict s.terms.mode bound m mode)
   row_item i row (mirrored r m e room dirty) came x out = absurd (not_strict s.terms.mode bound m mode)
   row_item i row (snapped {key = key} {slot = slot} {epoch = epoch} {p = p} {made = made} r m e young) came x out =
@@ -544,9 +545,9 @@ module _ (app : Application) (w : World) (feeds : List Fed) (n bound : ℕ) (nod
   row_item i row a came x out = cc
 
   pub step_processed : (x : Item) → (switch_step app node.state node.clock input).1.item ≡ Some x → Processed x
-  step_processed x out = row_item input (switch_row app s node.clock input) (row_acts app s node.clock input) refl x out
+  step_processed x out = row_item input (switch_row app s node.clock input) (row_taken app s node.clock input) refl x out
 
-  row_released : IsApplication app → (event : ℕ) (i : Input) (row : SwitchRow) → Acts app s node.clock i row → input ≡ i → (x : Output) → (perform s node.clock row).1.released ≡ Some x →
+  row_released : IsApplication app → (event : ℕ) (i : Input) (row : SwitchRow) → RowTaken app s node.clock i row → input ≡ i → (x : Output) → (perform s node.clock row).1.released ≡ Some x →
       ((slot : Slot) (key : Key) (epoch : ℕ) (p : Packet) → Ready app s node.clock i key slot epoch p → length slot.cells ≡ app.cell_count) → ReleasedBy app feeds (item_on event (perform s node.clock row).1) (record { event = event; output = x })
   row_released is event i row (row_keyless {p = p} of) came x out counted =
       let fed_at : packet_at feeds p.mark ≡ Some p = subst (λ y. Brought w feeds n y) came brought in
@@ -571,7 +572,7 @@ module _ (app : Application) (w : World) (feeds : List Fed) (n bound : ℕ) (nod
   pub step_released : IsApplication app → (event : ℕ) (x : Output) → ((key : Key) → CellsCounted app.cell_count (slot_at node.state key)) → (switch_step app node.state node.clock input).1.released ≡ Some x →
       ReleasedBy app feeds (item_on event (switch_step app node.state node.clock input).1) (record { event = event; output = x })
   step_released is event x counted out =
-      row_released is event input (switch_row app s node.clock input) (row_acts app s node.clock input) refl x out
+      row_released is event input (switch_row app s node.clock input) (row_taken app s node.clock input) refl x out
       (λ slot key epoch p r. ready_counted r (lapsed_switch_counted app node.state node.clock counted))
 
   -- ---- ages
@@ -615,7 +616,7 @@ module _ (app : Application) (w : World) (feeds : List Fed) (n bound : ℕ) (nod
     item_ages key epoch slot j true own moment dirty h = ages_clean items rounds node.clock key epoch slot.last slot.ages slot.round j own dirty (λ m q is. within_round key epoch m q is) h
     item_ages key epoch slot j false own moment dirty h = ages_updated items rounds node.clock key epoch slot.last slot.ages slot.round j own moment (λ m q is. within_round key epoch m q is) h
 
-    row_ages : (i : Input) (row : SwitchRow) → Acts app s node.clock i row → input ≡ i → AgesLeft (perform s node.clock row).1 (perform s node.clock row).0
+    row_ages : (i : Input) (row : SwitchRow) → RowTaken app s node.clock i row → input ≡ i → AgesLeft (perform s node.clock row).1 (perform s node.clock row).0
     row_ages i (Keyless out) a came = still (perform s node.clock (Keyless out)).1 s refl refl ages_before
     row_ages i (NoRoom mark) a came = still (perform s node.clock (NoRoom mark)).1 s refl refl ages_before
     row_ages i (NewAsk key slot packet) a came = still (perform s node.clock (NewAsk key slot packet)).1 (perform s node.clock (NewAsk key slot packet)).0 refl refl (unleased_ages key _ refl)
@@ -655,7 +656,7 @@ module _ (app : Application) (w : World) (feeds : List Fed) (n bound : ℕ) (nod
     row_ages i Stale a came = still (perform s node.clock Stale).1 s refl refl ages_before
 
     pub step_ages : AgesLeft (switch_step app node.state node.clock input).1 (switch_step app node.state node.clock input).0
-    step_ages = row_ages input (switch_row app s node.clock input) (row_acts app s node.clock input) refl
+    step_ages = row_ages input (switch_row app s node.clock input) (row_taken app s node.clock input) refl
 
   -- ---- whose the begun rounds are
 

@@ -15,7 +15,7 @@ use Rattle.proto_data.specs.declared.message.Record.{Record}
 use Rattle.proto_data.specs.declared.message.Carried.{Carried}
 use Rattle.proto_data.specs.declared.terms.Mode.{Mode}
 use Rattle.rp_app.specs.Application.{Application, Delta, written}
-use Rattle.proto_model.specs.Carrying.{carried_packet, packet_of}
+use Rattle.proto_data.specs.Carrying.{carried_packet, packet_of}
 use Rattle.proto_model.specs.Effects.{added, made_output, frame_passed, switch_lines}
 use Rattle.proto_model.specs.Feeds.{Each}
 use Rattle.proto_model.specs.Lines.{Dropped}
@@ -27,14 +27,14 @@ use Rattle.proto_model.specs.Slot.{Slot, Lease, Idle, Asking, Held, Lapsed, is_y
 use Rattle.proto_model.specs.Stands.{entries_of}
 use Rattle.proto_model.specs.Straight.{Hop, StraightAsk, AskAnswered, AsksAnswered, is_calm, reached, row_of, awaits, awaits_at, awaits_lease}
 use Rattle.proto_model.specs.SwitchRow.{Drops, Direct, Mirrored, is_clean, message_row, process_row, granted, without_asked, switch_row}
-use Rattle.proto_model.specs.SwitchActs.{perform}
+use Rattle.proto_model.specs.SwitchOutcomes.{perform}
 use Rattle.proto_model.specs.SwitchRows.{switch_step}
 use Rattle.proto_model.specs.SwitchState.{Switch, Item, slot_at, lapsed, has_copies, only_dropped}
 use Rattle.proto_model.specs.Table.{Key, same_key}
 use Rattle.proto_model.specs.World.{World, SwitchNode, ReplicaNode, Journaled, opened}
 use Rattle.proto_model.specs.WorldStep.{Act, Delivers, next_event, perform_act, node_takes, switch_takes, world_step}
 use Rattle.proto_safety.specs.Books.{In}
-use Rattle.proto_safety.specs.Flows.{Flow, flow_from, flow_step, flow_cells}
+use Rattle.proto_safety.specs.Flows.{FlowRecord, flow_from, flow_step, flow_cells}
 use Rattle.proto_safety.specs.Origins.{Origin}
 use Rattle.proto_safety.specs.SwitchSent.{SaysNow}
 use Rattle.proto_safety.proofs.CellsGround.{Based, based_kept}
@@ -63,7 +63,7 @@ abbrev NotSnap : Entry → Type 0
 NotSnap (Entry.Snap key epoch round values) = ⊥
 NotSnap _ = Unit {0}
 
-step_counted : (n : ℕ) (key : Key) (o : Option Flow) (x : Entry) → NotSnap x → length (flow_cells n o) ≡ n → length (flow_cells n (flow_step n key o x)) ≡ n
+step_counted : (n : ℕ) (key : Key) (o : Option FlowRecord) (x : Entry) → NotSnap x → length (flow_cells n o) ≡ n → length (flow_cells n (flow_step n key o x)) ≡ n
 step_counted n key o (Entry.Grant k epoch switch inc nonce) snapless h = key_case (same_key k key)
   where
     key_case : (b : Bool) → length (flow_cells n (if b then Some (record { epoch = epoch; switch = switch; inc = inc; nonce = nonce; last = 0; cells = flow_cells n o }) else o)) ≡ n
@@ -71,16 +71,16 @@ step_counted n key o (Entry.Grant k epoch switch inc nonce) snapless h = key_cas
     key_case false = h
 step_counted n key o (Entry.Put k epoch number delta) snapless h = key_case (same_key k key)
   where
-    put_case : (o : Option Flow) → length (flow_cells n o) ≡ n → length (flow_cells n (option_map (λ (f : Flow). record f { last = number; cells = written f.cells delta }) o)) ≡ n
+    put_case : (o : Option FlowRecord) → length (flow_cells n o) ≡ n → length (flow_cells n (option_map (λ (f : FlowRecord). record f { last = number; cells = written f.cells delta }) o)) ≡ n
     put_case None h = h
     put_case (Some f) h = length-written f.cells delta ∙ h
 
-    key_case : (b : Bool) → length (flow_cells n (if b then option_map (λ (f : Flow). record f { last = number; cells = written f.cells delta }) o else o)) ≡ n
+    key_case : (b : Bool) → length (flow_cells n (if b then option_map (λ (f : FlowRecord). record f { last = number; cells = written f.cells delta }) o else o)) ≡ n
     key_case true = put_case o h
     key_case false = h
 step_counted n key o (Entry.Snap k epoch round values) snapless h = absurd snapless
 
-flow_counted : (n : ℕ) (key : Key) (o : Option Flow) (es : List Entry) → ((x : Entry) → In es x → NotSnap x) → length (flow_cells n o) ≡ n → length (flow_cells n (flow_from n key o es)) ≡ n
+flow_counted : (n : ℕ) (key : Key) (o : Option FlowRecord) (es : List Entry) → ((x : Entry) → In es x → NotSnap x) → length (flow_cells n o) ≡ n → length (flow_cells n (flow_from n key o es)) ≡ n
 flow_counted n key o [] snapless h = h
 flow_counted n key o (x ∷ xs) snapless h = flow_counted n key (flow_step n key o x) xs (λ y i. snapless y (inr i)) (step_counted n key o x (snapless x (inl refl)) h)
 

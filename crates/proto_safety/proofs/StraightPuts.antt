@@ -13,7 +13,7 @@ use Rattle.proto_data.specs.declared.message.Record.{Record}
 use Rattle.proto_data.specs.declared.message.Carried.{Carried}
 use Rattle.proto_data.specs.declared.terms.Mode.{Mode}
 use Rattle.rp_app.specs.Application.{Application, Delta}
-use Rattle.proto_model.specs.Carrying.{carried_output, output_of}
+use Rattle.proto_data.specs.Carrying.{carried_output, output_of}
 use Rattle.proto_model.specs.Effects.{added}
 use Rattle.proto_model.specs.ReplicaRows.{store_message_row, owner_answer, with_entry}
 use Rattle.proto_model.specs.ReplicaState.{Replica, record_at}
@@ -22,7 +22,7 @@ use Rattle.proto_model.specs.Runs.{Run, before}
 use Rattle.proto_model.specs.Slot.{Slot, Lease, Idle, Asking, Held, Lapsed, lapsed_slot, lapsed_lease}
 use Rattle.proto_model.specs.Straight.{Hop, StraightPut, PutReleased, PutsRelease, reached, record_of, put_next, owns, slot_of}
 use Rattle.proto_model.specs.SwitchRow.{has_epoch, message_row}
-use Rattle.proto_model.specs.SwitchActs.{perform}
+use Rattle.proto_model.specs.SwitchOutcomes.{perform}
 use Rattle.proto_model.specs.SwitchRows.{switch_step}
 use Rattle.proto_model.specs.SwitchState.{Switch, slot_at, lapsed}
 use Rattle.proto_model.specs.Table.{Key}

@@ -8,7 +8,7 @@ use Rattle.proto_data.specs.declared.message.Entry.{Entry}
 use Rattle.proto_data.specs.declared.message.Input.{Input}
 use Rattle.proto_data.specs.declared.message.Carried.{Carried}
 use Rattle.rp_app.specs.Application.{Application, Delta}
-use Rattle.proto_model.specs.Carrying.{carried_output}
+use Rattle.proto_data.specs.Carrying.{carried_output}
 use Rattle.proto_model.specs.Feeds.{Each}
 use Rattle.proto_model.specs.ReplicaRows.{store_step}
 use Rattle.proto_model.specs.ReplicaState.{Replica}
@@ -17,7 +17,7 @@ use Rattle.proto_model.specs.Runs.{Run, before, act_at}
 use Rattle.proto_model.specs.Slot.{Slot, Lease, Asking, is_young}
 use Rattle.proto_model.specs.Stands.{entries_of}
 use Rattle.proto_model.specs.Straight.{Hop, SentAt, load_of}
-use Rattle.proto_model.specs.SwitchActs.{perform}
+use Rattle.proto_model.specs.SwitchOutcomes.{perform}
 use Rattle.proto_model.specs.SwitchAlarm.{alarm, repeated_ask, repeated_asks, resent_put, walk_order}
 use Rattle.proto_model.specs.SwitchRow.{SwitchRow, NewAsk, AskAgain, Mirrored, Late, Resends, switch_row}
 use Rattle.proto_model.specs.SwitchRows.{switch_step}

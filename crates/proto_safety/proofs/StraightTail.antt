@@ -20,7 +20,7 @@ use Rattle.proto_model.specs.Table.{Key}
 use Rattle.proto_model.specs.World.{World, SwitchNode, ReplicaNode, opened}
 use Rattle.proto_model.specs.WorldStep.{Delivers, node_takes, switch_takes, next_event}
 use Rattle.proto_safety.specs.Books.{IsPrefix, BooksHold, committed_of}
-use Rattle.proto_safety.specs.Flows.{Flow, FitsFrom, flow_in, flow_of, flow_step}
+use Rattle.proto_safety.specs.Flows.{FlowRecord, FitsFrom, flow_in, flow_of, flow_step}
 use Rattle.proto_safety.proofs.BookEpochLaws.{books_fit}
 use Rattle.proto_safety.proofs.BookEpochs.{fits_parts}
 use Rattle.proto_safety.proofs.BooksStep.{node_after, tail_book}
@@ -94,14 +94,14 @@ module _ (r : Run) (c : Carried) (e : Entry) (last : Hop) (a : Answered r c e la
       (books_hold r.app r.setup (take (a.hop.place + 1) r.events), subst (λ l. IsPrefix l (committed_of now.replicas)) committed_is (prefix_same (committed_of now.replicas)))).1
 
 -- the flow behind a Put has its epoch
-pub last_flow : (n : ℕ) (key : Key) (es : List Entry) (epoch number : ℕ) (delta : Delta) (f : Flow) → FitsFrom n key None (es ++ Entry.Put key epoch number delta ∷ []) → flow_of n key (es ++ Entry.Put key epoch number delta ∷ []) ≡ Some f → f.epoch ≡ epoch
+pub last_flow : (n : ℕ) (key : Key) (es : List Entry) (epoch number : ℕ) (delta : Delta) (f : FlowRecord) → FitsFrom n key None (es ++ Entry.Put key epoch number delta ∷ []) → flow_of n key (es ++ Entry.Put key epoch number delta ∷ []) ≡ Some f → f.epoch ≡ epoch
 last_flow n key es epoch number delta f fits flow = flow_case (flow_of n key es) refl (fits_parts n key None es (Entry.Put key epoch number delta ∷ []) fits).1 (sym (fold-append (flow_step n key) None es (Entry.Put key epoch number delta ∷ [])) ∙ flow)
   where
-    flow_case : (o : Option Flow) → flow_of n key es ≡ o → FitsFrom n key o (Entry.Put key epoch number delta ∷ []) → flow_step n key o (Entry.Put key epoch number delta) ≡ Some f → f.epoch ≡ epoch
+    flow_case : (o : Option FlowRecord) → flow_of n key es ≡ o → FitsFrom n key o (Entry.Put key epoch number delta ∷ []) → flow_step n key o (Entry.Put key epoch number delta) ≡ Some f → f.epoch ≡ epoch
     flow_case None is h at = absurd (h.0 (same_key-refl key))
     flow_case (Some g) is h at =
-        let same : option_map (λ (x : Flow). x.epoch) (flow_step n key (Some g) (Entry.Put key epoch number delta)) ≡ Some g.epoch = rw (same_key-refl key) refl in
-        let both : Some g.epoch ≡ Some f.epoch = sym same ∙ ap (λ o. option_map (λ (x : Flow). x.epoch) o) at in
+        let same : option_map (λ (x : FlowRecord). x.epoch) (flow_step n key (Some g) (Entry.Put key epoch number delta)) ≡ Some g.epoch = rw (same_key-refl key) refl in
+        let both : Some g.epoch ≡ Some f.epoch = sym same ∙ ap (λ o. option_map (λ (x : FlowRecord). x.epoch) o) at in
         let e : g.epoch ≡ f.epoch = cc in sym e ∙ (h.0 (same_key-refl key)).0
 
 -- ---- the last hop

@@ -16,13 +16,14 @@ use Rattle.proto_model.specs.Feeds.{Each}
 use Rattle.proto_model.specs.Slot.{Slot, epoch_of, lapsed_slot}
 use Rattle.proto_model.specs.SwitchState.{Switch, Copy, slot_at, lapsed, is_of, is_covered, greatest_first}
 use Rattle.proto_model.specs.SwitchRow.{SwitchRow, Keyless, NoRoom, NewAsk, AskAgain, Drops, Direct, Mirrored, Granted, Late, Acked, RoundDone, Denied, Busied, Adopts, Resends, Stale}
-use Rattle.proto_model.specs.SwitchActs.{perform}
+use Rattle.proto_model.specs.SwitchOutcomes.{perform}
 use Rattle.proto_model.specs.SwitchAlarm.{Walk, alarm, resent, due_copies, other_copies, walk_order}
-use Rattle.proto_model.specs.World.{Fed, Journaled}
+use Rattle.proto_model.specs.World.{Journaled}
+use Rattle.rp_base.specs.declared.legality.Fed.{Fed}
 use Rattle.proto_safety.specs.Books.{In}
 use Rattle.proto_safety.proofs.Tables.{same_key-true, same_key-refl, get-put_same, get-put_other, get-map_values, same_some}
 use Rattle.proto_safety.proofs.FlowAlarm.{in_filter, in_append, in_map, in_due, in_other}
-use Rattle.proto_safety.proofs.SwitchTable.{Acts, Ready, Timely, msg, fed, at_grant, at_grant_again, ask_again, no_copy_room, too_old, granted_only, acked, round_done, busied}
+use Rattle.proto_safety.proofs.SwitchTable.{RowTaken, Ready, Timely, msg, fed, at_grant, at_grant_again, ask_again, no_copy_room, too_old, granted_only, acked, round_done, busied}
 use Rattle.proto_safety.proofs.AlarmInduction.{WalkKeeps, walk_kept}
 use Rattle.proto_safety.proofs.FlowCopies.{not_strict}
 use Rattle.proto_safety.proofs.FlowMoves.{ready_held}
@@ -232,7 +233,7 @@ module _ (app : Application) (feeds : List Fed) (es : List Entry) (items : List 
   abbrev after : SwitchRow → Switch
   after row = (perform s now row).0
 
-  pub row_from : (i : Input) (row : SwitchRow) → Acts app s now i row → input ≡ i → ((perform s now row).1.item ≡ None) → SwitchStands app feeds es items (perform s now row).0
+  pub row_from : (i : Input) (row : SwitchRow) → RowTaken app s now i row → input ≡ i → ((perform s now row).1.item ≡ None) → SwitchStands app feeds es items (perform s now row).0
   row_from j (Keyless out) a came none = h
   row_from j (NoRoom mark) a came none = h
   row_from j (NewAsk key slot packet) a came none = unleased app feeds es items s (after (NewAsk key slot packet)) key _ refl (λ c i ne. given_up key c i) refl h
@@ -247,14 +248,14 @@ module _ (app : Application) (feeds : List Fed) (es : List Entry) (items : List 
           let same : epoch ≡ e = cc (ap epoch_of (sym held.1.1) ∙ of) in
           subst (λ x. SlotStands app feeds es items key slot s.copies x) same (ready_from i key slot epoch p ready came).stands) h
 
-      dropped_case : (i : Input) (key : Key) (slot : Slot) (mark : ℕ) (cause : DropCause) → Acts app s now i (Drops key slot mark cause) → input ≡ i → SwitchStands app feeds es items (after (Drops key slot mark cause))
+      dropped_case : (i : Input) (key : Key) (slot : Slot) (mark : ℕ) (cause : DropCause) → RowTaken app s now i (Drops key slot mark cause) → input ≡ i → SwitchStands app feeds es items (after (Drops key slot mark cause))
       dropped_case i key slot mark cause (no_copy_room {epoch = epoch} {p = p} ready m full) came = let k = ready_stands i key slot epoch p ready came in record { at = k.at }
       dropped_case i key slot mark cause (too_old {bound = bound} ready m old) came = absurd (not_strict s.terms.mode bound r.strict m)
   row_from j (Direct key slot epoch mark delta out) a came none = cc
   row_from j (Mirrored key slot epoch mark delta out) a came none = cc
   row_from j (Granted key slot) a came none = granted_case j key slot a came
     where
-      granted_case : (i : Input) (key : Key) (slot : Slot) → Acts app s now i (Granted key slot) → input ≡ i → SwitchStands app feeds es items (after (Granted key slot))
+      granted_case : (i : Input) (key : Key) (slot : Slot) → RowTaken app s now i (Granted key slot) → input ≡ i → SwitchStands app feeds es items (after (Granted key slot))
       granted_case i key slot (granted_only {from = from} {to = to} {inc = inc} {nonce = nonce} {epoch = epoch} {first = first} {cells = cells} {load = load} {slot = old} t asked) came =
           let g = r.granted from to inc nonce epoch first key cells load old came t in
           put_stands app feeds es items items s (after (Granted key slot)) key slot refl (λ c i ne. i) (λ k ne. unchanged es items k)
@@ -272,5 +273,5 @@ module _ (app : Application) (feeds : List Fed) (es : List Entry) (items : List 
   row_from j Resends a came none = alarm_stands app feeds es items s now r.strict h
   row_from j Stale a came none = h
 
-  pub row_stands : (row : SwitchRow) → Acts app s now input row → ((perform s now row).1.item ≡ None) → SwitchStands app feeds es items (perform s now row).0
+  pub row_stands : (row : SwitchRow) → RowTaken app s now input row → ((perform s now row).1.item ≡ None) → SwitchStands app feeds es items (perform s now row).0
   row_stands row a none = row_from input row a refl none

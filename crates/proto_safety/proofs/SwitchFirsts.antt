@@ -14,7 +14,7 @@ use Rattle.proto_model.specs.Slot.{Slot, Lease, Round, emptied, is_young, Idle, 
 use Rattle.proto_model.specs.SwitchState.{Switch, Copy, slot_at, is_of, is_covered, lapsed}
 use Rattle.proto_model.specs.SwitchAlarm.{alarm, Walk, empty_put, chunk_sent, resent, resent_put, repeated_ask, repeated_asks, due_copies, other_copies, walk_order, epoch_at}
 use Rattle.proto_model.specs.SwitchRow.{SwitchRow, NewAsk, AskAgain, Drops, Direct, Mirrored, Granted, Late, Acked, RoundDone, Denied, Busied, Resends, switch_row}
-use Rattle.proto_model.specs.SwitchActs.{perform, late_did}
+use Rattle.proto_model.specs.SwitchOutcomes.{perform, late_did}
 use Rattle.proto_model.specs.SwitchRows.{switch_step}
 use Rattle.proto_model.specs.Feeds.{Each}
 use Rattle.proto_safety.specs.Books.{In}
@@ -26,7 +26,7 @@ use Rattle.proto_safety.proofs.FlowBooks.{in_front, in_last}
 use Rattle.proto_safety.proofs.Lists.{each_append, each_take, each_if}
 use Rattle.proto_safety.proofs.TableKeys.{KeysDiffer, member_found}
 use Rattle.proto_safety.proofs.Tables.{get-map_values, same_key-true, same_key-refl, same_some}
-use Rattle.proto_safety.proofs.SwitchTable.{msg, Acts, Ready, fed, at_grant, at_grant_again, first_ask, ask_idle, ask_anew, ask_lapsed, ask_again, no_copy_room, direct, mirrored, snapped, too_old, granted_only, late, acked, round_done, denied, busied, row_acts}
+use Rattle.proto_safety.proofs.SwitchTable.{msg, RowTaken, Ready, fed, at_grant, at_grant_again, first_ask, ask_idle, ask_anew, ask_lapsed, ask_again, no_copy_room, direct, mirrored, snapped, too_old, granted_only, late, acked, round_done, denied, busied, row_taken}
 use Rattle.proto_safety.proofs.AlarmInduction.{WalkKeeps, walk_kept, new_round, round_slot}
 use Rattle.proto_safety.proofs.FlowMoves.{chunk_slot}
 use Rattle.proto_safety.proofs.Copies.{Fit, HasSlot, is_leased}
@@ -299,7 +299,7 @@ module _ (app : Application) (fs : List First) (n : ℕ) (s : Switch) (now : ℕ
   late_sends (Some m) = refl
 
   -- every row
-  row_firsts : KeysDiffer s.slots → {input : Input} (row : SwitchRow) → Untouched fs n s.inc s.slots input → Acts app s now input row → After (perform s now row).0 (perform s now row).1.sent
+  row_firsts : KeysDiffer s.slots → {input : Input} (row : SwitchRow) → Untouched fs n s.inc s.slots input → RowTaken app s now input row → After (perform s now row).0 (perform s now row).1.sent
   row_firsts keys (NewAsk key slot packet) u (first_ask of at room) = asked key _ None refl (λ r x. none_running r x)
   row_firsts keys (NewAsk key slot packet) u (ask_idle of at is) = asked key _ None refl (λ r x. none_running r x)
   row_firsts keys (NewAsk key slot packet) u (ask_anew of at is old) = asked key _ None refl (λ r x. none_running r x)
@@ -363,4 +363,4 @@ pub step_firsts : (app : Application) (fs : List First) (n : ℕ) (s : Switch) (
 step_firsts app fs n s now input tidy c u h =
     let t = tidy_lapsed s now tidy in
     row_firsts app fs n (lapsed now s) now (lapsed_firsts fs n s.inc now s.slots s.copies h) t.copies (lapsed_counted fs n s.inc s.nonces now s.slots c) t.keys (switch_row app (lapsed now s) now input)
-    (lapsed_untouched fs n s.inc now s.slots input u) (row_acts app (lapsed now s) now input)
+    (lapsed_untouched fs n s.inc now s.slots input u) (row_taken app (lapsed now s) now input)

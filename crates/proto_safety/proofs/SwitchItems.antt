@@ -11,10 +11,11 @@ use Rattle.proto_model.specs.Feeds.{Each, packet_at}
 use Rattle.proto_model.specs.Slot.{Slot, Held, epoch_of}
 use Rattle.proto_model.specs.SwitchState.{Switch, Copy, slot_at, has_copies, is_of}
 use Rattle.proto_model.specs.SwitchRow.{is_clean}
-use Rattle.proto_model.specs.SwitchActs.{item_of, remember_output, after_direct, after_mirrored}
-use Rattle.proto_model.specs.World.{Fed, Journaled}
+use Rattle.proto_model.specs.SwitchOutcomes.{item_of, remember_output, after_direct, after_mirrored}
+use Rattle.proto_model.specs.World.{Journaled}
+use Rattle.rp_base.specs.declared.legality.Fed.{Fed}
 use Rattle.proto_safety.specs.Books.{In, IsPrefix}
-use Rattle.proto_safety.specs.Flows.{Flow, FitsFrom, flow_of}
+use Rattle.proto_safety.specs.Flows.{FlowRecord, FitsFrom, flow_of}
 use Rattle.proto_safety.proofs.Lists.{each_append}
 use Rattle.proto_safety.proofs.Tables.{same_key-refl, same_key-true}
 use Rattle.proto_safety.proofs.FlowAlarm.{in_append, to_filter}
@@ -28,7 +29,7 @@ use Rattle.proto_safety.proofs.SwitchCells.{SlotStands, SwitchStands, SameItems,
 
 -- what is known of the flow of a packet that is processed in a live slot
 pub record ItemFacts (app : Application) (feeds : List Fed) (es : List Entry) (s : Switch) (key : Key) (slot : Slot) (epoch : ℕ) (p : Packet) : Type 0 where
-  pub flow : Flow
+  pub flow : FlowRecord
   pub flow_is : flow_of app.cell_count key es ≡ Some flow
   pub epoch_is : flow.epoch ≡ epoch
   pub fed_at : packet_at feeds p.mark ≡ Some p
@@ -51,7 +52,7 @@ not_same j k ne = same_case (same_key j k) refl
 module _ (app : Application) (feeds : List Fed) (es : List Entry) (items : List Journaled) (s : Switch) (now : ℕ) (key : Key) (slot : Slot) (nonce epoch expiry : ℕ) (p : Packet) (made : Delta × Option Output) (j : Journaled) (number : ℕ)
     (fits : FitsFrom app.cell_count key None es) (k : ItemsKnown app.cell_count es items key) (h : CellsOf app feeds es items key) (ready : ReadyFacts app feeds es items s key slot epoch p) (facts : ItemFacts app feeds es s key slot epoch p)
     (held : slot.lease ≡ Held nonce epoch expiry) (plain : app.plain slot.cells p ≡ made) (item : j.item ≡ item_of key epoch p.mark number now made.0) (output : j.output ≡ made.1) (next : slot.last ≤ number) where
-  abbrev f : Flow
+  abbrev f : FlowRecord
   f = facts.flow
 
   abbrev front : List Journaled

@@ -4,7 +4,7 @@ use Rattle.proto_data.specs.declared.message.Msg.{Msg}
 use Rattle.proto_data.specs.declared.message.Carried.{Carried}
 use Rattle.proto_data.specs.declared.message.Input.{Input}
 use Rattle.rp_app.specs.Application.{Application}
-use Rattle.proto_model.specs.Carrying.{carried_packet}
+use Rattle.proto_data.specs.Carrying.{carried_packet}
 use Rattle.proto_model.specs.Table.{Key, Table}
 use Rattle.proto_model.specs.Slot.{Slot, Lease, Asking, is_young}
 use Rattle.proto_model.specs.Feeds.{Each}
@@ -12,10 +12,10 @@ use Rattle.proto_safety.specs.Loads.{OnPacket}
 use Rattle.proto_model.specs.SwitchState.{Switch, lapsed}
 use Rattle.proto_model.specs.SwitchAlarm.{alarm, repeated_ask, repeated_asks, resent_put, walk_order}
 use Rattle.proto_model.specs.SwitchRow.{SwitchRow, NewAsk, AskAgain, Mirrored, Late, Resends, switch_row}
-use Rattle.proto_model.specs.SwitchActs.{perform}
+use Rattle.proto_model.specs.SwitchOutcomes.{perform}
 use Rattle.proto_model.specs.SwitchRows.{switch_step}
 use Rattle.proto_safety.proofs.Lists.{each_append, each_if, each_map, each_take}
-use Rattle.proto_safety.proofs.SwitchTable.{Acts, first_ask, ask_idle, ask_anew, ask_lapsed, ask_again, row_acts}
+use Rattle.proto_safety.proofs.SwitchTable.{RowTaken, first_ask, ask_idle, ask_anew, ask_lapsed, ask_again, row_taken}
 use Rattle.proto_safety.proofs.AlarmInduction.{WalkKeeps, walk_kept}
 
 module _ (P : Key → Carried → Type 0) where
@@ -53,7 +53,7 @@ module _ (P : Key → Carried → Type 0) where
   OnInput app (Input.Msg m) = Unit {0}
   OnInput app Input.Alarm = Unit {0}
 
-  row_sent : (app : Application) (s : Switch) (now : ℕ) (input : Input) (row : SwitchRow) → Acts app s now input row → OnInput app input → Sends (perform s now row).1.sent
+  row_sent : (app : Application) (s : Switch) (now : ℕ) (input : Input) (row : SwitchRow) → RowTaken app s now input row → OnInput app input → Sends (perform s now row).1.sent
   row_sent app s now input (NewAsk key slot packet) (first_ask of at room) h = (h key of, tt)
   row_sent app s now input (NewAsk key slot packet) (ask_idle of at is) h = (h key of, tt)
   row_sent app s now input (NewAsk key slot packet) (ask_anew of at is old) h = (h key of, tt)
@@ -66,4 +66,4 @@ module _ (P : Key → Carried → Type 0) where
   row_sent app s now input _ f h = tt
 
   pub switch_sent : (app : Application) (s : Switch) (now : ℕ) (input : Input) → OnInput app input → Sends (switch_step app s now input).1.sent
-  switch_sent app s now input h = row_sent app (lapsed now s) now input (switch_row app (lapsed now s) now input) (row_acts app (lapsed now s) now input) h
+  switch_sent app s now input h = row_sent app (lapsed now s) now input (switch_row app (lapsed now s) now input) (row_taken app (lapsed now s) now input) h

@@ -7,17 +7,17 @@ use Rattle.proto_data.specs.declared.message.Carried.{Carried}
 use Rattle.rp_base.specs.declared.node.Packet.{Packet}
 use Rattle.rp_base.specs.declared.node.Output.{Output}
 use Rattle.rp_app.specs.Application.{Application, IsApplication, IsOutputOf, zeros}
-use Rattle.proto_model.specs.Carrying.{output_of}
+use Rattle.proto_data.specs.Carrying.{output_of}
 use Rattle.proto_model.specs.Table.{Key, Table, get, put}
 use Rattle.proto_model.specs.Ring.{Ring, remembers, forget}
 use Rattle.proto_model.specs.Slot.{Slot, lapsed_slot}
 use Rattle.proto_model.specs.SwitchState.{Switch, SwitchStep, Item, slot_at, lapsed}
 use Rattle.proto_model.specs.SwitchAlarm.{alarm, Walk, walk_order}
 use Rattle.proto_model.specs.SwitchRow.{SwitchRow, Keyless, NewAsk, AskAgain, Drops, Direct, Mirrored, Granted, Late, Acked, RoundDone, Denied, Busied, Resends, switch_row}
-use Rattle.proto_model.specs.SwitchActs.{perform, held_output, forget_load, remember_output, late_did}
+use Rattle.proto_model.specs.SwitchOutcomes.{perform, held_output, forget_load, remember_output, late_did}
 use Rattle.proto_model.specs.SwitchRows.{switch_step}
 use Rattle.proto_safety.proofs.RingMarks.{one, count_in, count_remember, count_forget, forgotten, remembered, total, total-put_some, total-put_none, total-map}
-use Rattle.proto_safety.proofs.SwitchTable.{Acts, Ready, fed, at_grant, at_grant_again, keyless, first_ask, ask_idle, ask_anew, ask_lapsed, ask_again, no_copy_room, direct, mirrored, snapped, too_old, granted_only, late, acked, round_done, denied, busied, row_acts, late_item}
+use Rattle.proto_safety.proofs.SwitchTable.{RowTaken, Ready, fed, at_grant, at_grant_again, keyless, first_ask, ask_idle, ask_anew, ask_lapsed, ask_again, no_copy_room, direct, mirrored, snapped, too_old, granted_only, late, acked, round_done, denied, busied, row_taken, late_item}
 use Rattle.proto_safety.proofs.AlarmInduction.{WalkKeeps, walk_kept}
 use Rattle.proto_safety.proofs.SlotCells.{Whole, ready_whole, lapsed_whole}
 
@@ -212,7 +212,7 @@ module _ (app : Application) (is_app : IsApplication app) (s : Switch) (now : �
   late_released None = refl
   late_released (Some m) = refl
 
-  row_marks : Whole app.cell_count s.slots → {input : Input} (row : SwitchRow) → Acts app s now input row → MarksMove s input (perform s now row)
+  row_marks : Whole app.cell_count s.slots → {input : Input} (row : SwitchRow) → RowTaken app s now input row → MarksMove s input (perform s now row)
   row_marks h (Keyless out) (keyless {p = p} of) =
       record {
         asked = λ n. omega arith;
@@ -251,7 +251,7 @@ module _ (app : Application) (is_app : IsApplication app) (s : Switch) (now : �
 -- one step
 pub step_marks : (app : Application) → IsApplication app → (s : Switch) (now : ℕ) (input : Input) → Whole app.cell_count s.slots → MarksMove s input (switch_step app s now input)
 step_marks app is_app s now input h =
-    let m = row_marks app is_app (lapsed now s) now (lapsed_whole app.cell_count now s.slots h) (switch_row app (lapsed now s) now input) (row_acts app (lapsed now s) now input) in
+    let m = row_marks app is_app (lapsed now s) now (lapsed_whole app.cell_count now s.slots h) (switch_row app (lapsed now s) now input) (row_taken app (lapsed now s) now input) in
     record {
       asked = λ n. omega (arith, m.asked n, total-map (asked_in n) (lapsed_slot now) s.slots (λ v. refl));
       rings = λ n. omega (arith, m.rings n, total-map (rings_in n) (lapsed_slot now) s.slots (λ v. refl));

@@ -12,7 +12,7 @@ use Rattle.proto_model.specs.Table.{Key, Table, same_key, get, put}
 use Rattle.proto_model.specs.Slot.{Slot, Lease, Round, Idle, Asking, Held, Lapsed, epoch_of, is_young, lapsed_slot}
 use Rattle.proto_model.specs.SwitchState.{Switch, Copy, slot_at, lapsed}
 use Rattle.proto_model.specs.SwitchRow.{SwitchRow, NewAsk, AskAgain, Mirrored, Late, Resends, switch_row}
-use Rattle.proto_model.specs.SwitchActs.{perform}
+use Rattle.proto_model.specs.SwitchOutcomes.{perform}
 use Rattle.proto_model.specs.SwitchAlarm.{Walk, due_copies, other_copies, epoch_at, resent_put, repeated_ask, repeated_asks, resent, alarm, walk_order}
 use Rattle.proto_model.specs.SwitchRows.{switch_step}
 use Rattle.proto_safety.specs.Books.{In}
@@ -26,7 +26,7 @@ use Rattle.proto_safety.proofs.FlowMoves.{ready_held, chunk_slot}
 use Rattle.proto_safety.proofs.FlowAlarm.{to_append, to_map, in_due}
 use Rattle.proto_safety.proofs.FlowBooks.{in_front}
 use Rattle.proto_safety.proofs.Chains.{each_in}
-use Rattle.proto_safety.proofs.SwitchTable.{Acts, row_acts, ask_again, mirrored}
+use Rattle.proto_safety.proofs.SwitchTable.{RowTaken, row_taken, ask_again, mirrored}
 
 -- ---- a slot that keeps its lease and its round keeps what was said of it
 
@@ -244,7 +244,7 @@ alarm_says s now h =
 
 -- ---- every row
 
-row_says : (app : Application) (s : Switch) (now : ℕ) (input : Input) (row : SwitchRow) → Acts app s now input row → Tidy s → Each (SentNow (perform s now row).0) (perform s now row).1.sent
+row_says : (app : Application) (s : Switch) (now : ℕ) (input : Input) (row : SwitchRow) → RowTaken app s now input row → Tidy s → Each (SentNow (perform s now row).0) (perform s now row).1.sent
 row_says app s now input (NewAsk key slot packet) a h =
     ((refl, record { here = refl; slot = _; found = get-put_same s.slots key _; first = now; asking = refl }), tt)
 row_says app s now input (AskAgain key slot nonce packet) (ask_again {first = first} of at is young) h =
@@ -276,4 +276,4 @@ pub tidy_lapsed : (s : Switch) (now : ℕ) → Tidy s → Tidy (lapsed now s)
 tidy_lapsed s now h = record { keys = differ_map (lapsed_slot now) s.slots h.keys; copies = same_lease s.slots now s.copies h.copies }
 
 pub step_says : (app : Application) (s : Switch) (now : ℕ) (input : Input) → Tidy s → Each (SentNow (switch_step app s now input).0) (switch_step app s now input).1.sent
-step_says app s now input h = row_says app (lapsed now s) now input (switch_row app (lapsed now s) now input) (row_acts app (lapsed now s) now input) (tidy_lapsed s now h)
+step_says app s now input h = row_says app (lapsed now s) now input (switch_row app (lapsed now s) now input) (row_taken app (lapsed now s) now input) (tidy_lapsed s now h)

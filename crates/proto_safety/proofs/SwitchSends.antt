@@ -12,7 +12,7 @@ use Rattle.proto_model.specs.SwitchState.{Switch, lapsed}
 use Rattle.proto_model.specs.SwitchAlarm.{alarm, repeated_ask, repeated_asks, resent_put, walk_order}
 use Rattle.proto_model.specs.SwitchRow.{SwitchRow, NewAsk, AskAgain, Mirrored, Late, Resends, switch_row}
 use Rattle.std.proofs.Common.{Some, None}
-use Rattle.proto_model.specs.SwitchActs.{perform}
+use Rattle.proto_model.specs.SwitchOutcomes.{perform}
 use Rattle.proto_model.specs.SwitchRows.{switch_step}
 use Rattle.proto_safety.proofs.Lists.{each_append, each_if, each_map, each_take}
 use Rattle.proto_safety.proofs.AlarmInduction.{WalkKeeps, walk_kept}

@@ -12,10 +12,10 @@ use Rattle.proto_model.specs.Slot.{Slot, Lease, Round, Idle, Asking, Held, Lapse
 use Rattle.proto_model.specs.SwitchState.{Switch, Copy, slot_at, is_covered, greatest_first, lapsed}
 use Rattle.proto_model.specs.SwitchAlarm.{Walk, walk_order}
 use Rattle.proto_model.specs.SwitchRow.{SwitchRow, NewAsk, AskAgain, Drops, Direct, Mirrored, Granted, Late, Acked, RoundDone, Denied, Busied, Resends, switch_row}
-use Rattle.proto_model.specs.SwitchActs.{perform, acked_lease}
+use Rattle.proto_model.specs.SwitchOutcomes.{perform, acked_lease}
 use Rattle.proto_model.specs.SwitchRows.{switch_step}
 use Rattle.proto_safety.proofs.Tables.{get-put_same, get-put_other, get-map_values, same_key-true, same_some}
-use Rattle.proto_safety.proofs.SwitchTable.{msg, Acts, Ready, fed, at_grant, at_grant_again, ask_again, no_copy_room, direct, mirrored, snapped, too_old, granted_only, acked, round_done, busied, row_acts}
+use Rattle.proto_safety.proofs.SwitchTable.{msg, RowTaken, Ready, fed, at_grant, at_grant_again, ask_again, no_copy_room, direct, mirrored, snapped, too_old, granted_only, acked, round_done, busied, row_taken}
 use Rattle.proto_safety.proofs.AlarmInduction.{WalkKeeps, walk_kept}
 use Rattle.proto_safety.proofs.SlotCells.{mapped}
 use Rattle.proto_safety.proofs.SlotFirsts.{has_leased, lapsed_epoch, lapsed_asking}
@@ -79,7 +79,7 @@ module _ (app : Application) (s : Switch) (now : ℕ) where
       took slot t.at t.asking (ap (λ (i : ℕ). msg from to (Body.Grant i nonce epoch key cells (Some c))) (eqb-true inc s.inc t.here)) refl
   ready_since (at_grant_again {slot = slot} i at is in_asked) = kept slot at (inl refl)
 
-  row_since : {input : Input} (row : SwitchRow) → Acts app s now input row → Left input (perform s now row).0.slots
+  row_since : {input : Input} (row : SwitchRow) → RowTaken app s now input row → Left input (perform s now row).0.slots
   row_since {input} (NewAsk key slot packet) f = one input key _ (idle refl)
   row_since {input} (AskAgain key slot nonce packet) (ask_again of at is young) = one input key _ (kept slot at (inl refl))
   row_since {input} (Drops key slot mark cause) (no_copy_room r m full) = one input key slot (ready_since r)
@@ -147,4 +147,4 @@ lapsed_since inc t now slots copies input k l (kept_by_round {epoch = epoch} old
 
 pub step_since : (app : Application) (s : Switch) (now : ℕ) (input : Input) (k : Key) (v : Slot) → slot_at (switch_step app s now input).0 k ≡ Some v → Since s.inc s.terms.t_switch now s.slots s.copies input k v.lease
 step_since app s now input k v at =
-    lapsed_since s.inc s.terms.t_switch now s.slots s.copies input k v.lease (row_since app (lapsed now s) now (switch_row app (lapsed now s) now input) (row_acts app (lapsed now s) now input) k v at)
+    lapsed_since s.inc s.terms.t_switch now s.slots s.copies input k v.lease (row_since app (lapsed now s) now (switch_row app (lapsed now s) now input) (row_taken app (lapsed now s) now input) k v at)

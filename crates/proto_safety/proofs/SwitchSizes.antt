@@ -8,13 +8,13 @@ use Rattle.rp_base.specs.declared.node.Output.{Output}
 use Rattle.proto_data.specs.declared.terms.Mode.{Mode}
 use Rattle.proto_data.specs.declared.terms.Terms.{Terms}
 use Rattle.rp_app.specs.Application.{Application, IsApplication, IsOutputOf, Delta, written}
-use Rattle.proto_model.specs.Carrying.{carried_packet, carried_output}
+use Rattle.proto_data.specs.Carrying.{carried_packet, carried_output}
 use Rattle.proto_model.specs.Feeds.{Each}
 use Rattle.proto_model.specs.Table.{Key}
 use Rattle.proto_model.specs.Slot.{Slot, Lease, Idle, Asking, Held, Lapsed, fresh_slot, lapsed_slot, lapsed_lease, extended, emptied}
 use Rattle.proto_model.specs.SwitchState.{Switch, SwitchStep, Copy, slot_at, with_slot, lapsed, is_of, is_covered}
 use Rattle.proto_model.specs.SwitchRow.{SwitchRow, NewAsk, AskAgain, Drops, Direct, Mirrored, Granted, Late, Acked, RoundDone, Denied, Busied, Adopts, Resends, switch_row}
-use Rattle.proto_model.specs.SwitchActs.{perform, acked_lease, idled}
+use Rattle.proto_model.specs.SwitchOutcomes.{perform, acked_lease, idled}
 use Rattle.proto_model.specs.SwitchRows.{switch_step}
 use Rattle.proto_safety.specs.Sizes.{LoadSized, DeltaSized, MsgSized, BodySized, LeaseSized, SlotSized, CopySized, SwitchSized, delta_room}
 use Rattle.proto_safety.proofs.Lists.{each_append, each_filter}
@@ -23,7 +23,7 @@ use Rattle.proto_safety.proofs.SizesOf.{each_put, each_get, each_values, delta_f
 use Rattle.proto_safety.proofs.AlarmSizes.{Sender, to_head_is, leased_epoch, alarm_sized}
 use Rattle.proto_safety.proofs.SlotCells.{length-written}
 use Rattle.proto_safety.proofs.FlowMoves.{ready_held}
-use Rattle.proto_safety.proofs.SwitchTable.{Acts, Ready, fed, at_grant, at_grant_again, first_ask, ask_idle, ask_anew, ask_lapsed, ask_again, no_copy_room, direct, mirrored, snapped, too_old, granted_only, late, acked, round_done, denied, busied, adopted, row_acts}
+use Rattle.proto_safety.proofs.SwitchTable.{RowTaken, Ready, fed, at_grant, at_grant_again, first_ask, ask_idle, ask_anew, ask_lapsed, ask_again, no_copy_room, direct, mirrored, snapped, too_old, granted_only, late, acked, round_done, denied, busied, adopted, row_taken}
 
 -- ---- leases
 
@@ -191,7 +191,7 @@ module _ (app : Application) (is : IsApplication app) (few : app.cell_count ≤ 
   late_sized s key slot None k = (k, tt)
   late_sized s key slot (Some m) k = (k, tt)
 
-  row_sized : (s : Switch) (input : Input) (row : SwitchRow) → SwitchSized n app.cell_count terms s → InputSized (n + 1) (delta_room terms.mode app.cell_count) input → Acts app s now input row → Result (perform s now row)
+  row_sized : (s : Switch) (input : Input) (row : SwitchRow) → SwitchSized n app.cell_count terms s → InputSized (n + 1) (delta_room terms.mode app.cell_count) input → RowTaken app s now input row → Result (perform s now row)
   row_sized s input (NewAsk key slot p) h i (first_ask of at room) = asks_anew s key fresh_slot p h of (omega arith) i
   row_sized s input (NewAsk key slot p) h i (ask_idle of at lease) = asks_anew s key slot p h of (was s key slot h at).last i
   row_sized s input (NewAsk key slot p) h i (ask_anew of at lease old) = asks_anew s key slot p h of (was s key slot h at).last i
@@ -237,4 +237,4 @@ module _ (app : Application) (is : IsApplication app) (few : app.cell_count ≤ 
   -- one step
   pub switch_sized : (s : Switch) (input : Input) → SwitchSized n app.cell_count terms s → InputSized (n + 1) (delta_room terms.mode app.cell_count) input → Result (switch_step app s now input)
   switch_sized s input h i =
-      row_sized (lapsed now s) input (switch_row app (lapsed now s) now input) (lapsed_switch_sized n app.cell_count now terms s h) i (row_acts app (lapsed now s) now input)
+      row_sized (lapsed now s) input (switch_row app (lapsed now s) now input) (lapsed_switch_sized n app.cell_count now terms s h) i (row_taken app (lapsed now s) now input)

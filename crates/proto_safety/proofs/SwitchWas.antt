@@ -11,10 +11,10 @@ use Rattle.proto_model.specs.Slot.{Slot, Idle, Asking, epoch_of, lapsed_slot}
 use Rattle.proto_model.specs.SwitchState.{Switch, Item, slot_at, lapsed}
 use Rattle.proto_model.specs.SwitchAlarm.{Walk, walk_order}
 use Rattle.proto_model.specs.SwitchRow.{SwitchRow, NewAsk, AskAgain, Drops, Direct, Mirrored, Granted, Late, Acked, RoundDone, Denied, Busied, Resends, switch_row}
-use Rattle.proto_model.specs.SwitchActs.{perform, late_did}
+use Rattle.proto_model.specs.SwitchOutcomes.{perform, late_did}
 use Rattle.proto_model.specs.SwitchRows.{switch_step}
 use Rattle.proto_safety.proofs.Tables.{get-put_same, get-put_other, get-map_values, same_key-true, same_some}
-use Rattle.proto_safety.proofs.SwitchTable.{msg, Acts, Ready, fed, at_grant, at_grant_again, ask_again, no_copy_room, direct, mirrored, snapped, too_old, granted_only, late, acked, round_done, denied, busied, row_acts}
+use Rattle.proto_safety.proofs.SwitchTable.{msg, RowTaken, Ready, fed, at_grant, at_grant_again, ask_again, no_copy_room, direct, mirrored, snapped, too_old, granted_only, late, acked, round_done, denied, busied, row_taken}
 use Rattle.proto_safety.proofs.AlarmInduction.{WalkKeeps, walk_kept}
 use Rattle.proto_safety.proofs.SlotFirsts.{acked_epoch, lapsed_epoch, lapsed_asking, has_leased, not_asking}
 use Rattle.proto_safety.proofs.SlotCells.{mapped}
@@ -87,7 +87,7 @@ module _ (app : Application) (s : Switch) (now : ℕ) where
       Left input (put s.slots key v)
   stays input key old v at leased le asking = one input key v (goes_on old at (λ e is. (leased e is, le)) asking)
 
-  row_left : {input : Input} (row : SwitchRow) → Acts app s now input row → Left input (perform s now row).0.slots
+  row_left : {input : Input} (row : SwitchRow) → RowTaken app s now input row → Left input (perform s now row).0.slots
   row_left {input} (NewAsk key slot packet) f = one input key _ (asks refl)
   row_left {input} (AskAgain key slot nonce packet) (ask_again of at is young) = stays input key slot _ at (λ e l. l) (omega arith) (λ m f x. x)
   row_left {input} (Drops key slot mark cause) (no_copy_room r m full) = one input key slot (ready_was slot r refl (omega arith))
@@ -125,7 +125,7 @@ lapsed_was inc nonces now slots input k v (takes {nonce = nonce} {first = first}
 
 pub step_was : (app : Application) (s : Switch) (now : ℕ) (input : Input) (k : Key) (v : Slot) → slot_at (switch_step app s now input).0 k ≡ Some v → Was s.inc s.nonces now s.slots input k v
 step_was app s now input k v at =
-    lapsed_was s.inc s.nonces now s.slots input k v (row_left app (lapsed now s) now (switch_row app (lapsed now s) now input) (row_acts app (lapsed now s) now input) k v at)
+    lapsed_was s.inc s.nonces now s.slots input k v (row_left app (lapsed now s) now (switch_row app (lapsed now s) now input) (row_taken app (lapsed now s) now input) k v at)
 
 -- ---- items
 
@@ -150,7 +150,7 @@ no_late : (mark : Option ℕ) (i : Item) → (late_did mark).item ≡ Some i →
 no_late None i e = cc
 no_late (Some m) i e = cc
 
-row_item : (app : Application) (s : Switch) (now : ℕ) {input : Input} (row : SwitchRow) → Acts app s now input row → (i : Item) → (perform s now row).1.item ≡ Some i → ItemStands (perform s now row).0 i
+row_item : (app : Application) (s : Switch) (now : ℕ) {input : Input} (row : SwitchRow) → RowTaken app s now input row → (i : Item) → (perform s now row).1.item ≡ Some i → ItemStands (perform s now row).0 i
 row_item app s now (Direct key slot epoch mark delta out) (direct r m made clean none) i e = item_stands _ _ i _ (get-put_same s.slots key _) (ready_leased r) refl e
 row_item app s now (Direct key slot epoch mark delta out) (snapped r m made young) i e = item_stands _ _ i _ (get-put_same s.slots key _) (ready_leased r) refl e
 row_item app s now (Mirrored key slot epoch mark delta out) (mirrored r m made room dirty) i e = item_stands _ _ i _ (get-put_same s.slots key _) (ready_leased r) refl e
@@ -158,4 +158,4 @@ row_item app s now (Late key slot mark) f i e = absurd (no_late mark i e)
 row_item app s now _ f i e = absurd cc
 
 pub step_item : (app : Application) (s : Switch) (now : ℕ) (input : Input) (i : Item) → (switch_step app s now input).1.item ≡ Some i → ItemStands (switch_step app s now input).0 i
-step_item app s now input i e = row_item app (lapsed now s) now (switch_row app (lapsed now s) now input) (row_acts app (lapsed now s) now input) i e
+step_item app s now input i e = row_item app (lapsed now s) now (switch_row app (lapsed now s) now input) (row_taken app (lapsed now s) now input) i e

@@ -15,7 +15,8 @@ use Rattle.proto_model.specs.Feeds.{Each}
 use Rattle.proto_model.specs.ReplicaState.{Replica}
 use Rattle.proto_model.specs.SwitchRows.{switch_step}
 use Rattle.proto_model.specs.ReplicaRows.{store_step}
-use Rattle.proto_model.specs.World.{World, SwitchNode, ReplicaNode, Fed}
+use Rattle.proto_model.specs.World.{World, SwitchNode, ReplicaNode}
+use Rattle.rp_base.specs.declared.legality.Fed.{Fed}
 use Rattle.proto_model.specs.WorldStep.{advanced_replicas, announcements, advanced, stopped, changed_at, Stops}
 use Rattle.proto_safety.specs.Books.{In, committed_of, IsPrefix}
 use Rattle.proto_safety.specs.Loads.{OnPacket, WasFed}

@@ -33,14 +33,14 @@ use Rattle.proto_safety.proofs.Chains.{each_in}
 use Rattle.proto_safety.proofs.FlowAlarm.{in_append, to_append}
 use Rattle.proto_safety.proofs.FlowBooks.{in_front}
 use Rattle.proto_safety.proofs.BookEpochs.{one_grant}
-use Rattle.proto_safety.proofs.WorldPuts.{NumberIn, is_put, is_snap, number_request, PutFrame, Known, PutsFit}
+use Rattle.proto_safety.proofs.WorldPuts.{NumberIn, is_put, is_snap, number_request, NumberFrame, Known, NumberFramesFit}
 use Rattle.proto_safety.proofs.Clocks.{AgedIn}
 use Rattle.proto_safety.proofs.Tables.{same_some}
 
 -- a request that was sent in an Ask, or in a Put or a Snap
 pub data WasSent (frames : List Msg) (f : First) : Type 0 where
   by_ask : {inc nonce : ℕ} → f.request ≡ AskOf inc nonce → AskSent frames f.switch inc nonce f.key → WasSent frames f
-  by_put : {inc epoch number : ℕ} → f.request ≡ NumberOf epoch number → PutFrame frames f.switch inc f.key epoch number → WasSent frames f
+  by_put : {inc epoch number : ℕ} → f.request ≡ NumberOf epoch number → NumberFrame frames f.switch inc f.key epoch number → WasSent frames f
 
 -- a switch's clock has read this moment
 pub record Before (switches : List SwitchNode) (n moment : ℕ) : Type 0 where
@@ -65,16 +65,16 @@ asked_count frames n inc nonces key k f count s q r (by_ask {inc = i} {nonce = j
     count k (subst (λ (x : ℕ). AskSent frames x inc k key) s (subst (λ (x : Key). AskSent frames f.switch inc k x) q (subst (λ (x : ℕ). AskSent frames f.switch x k f.key) inc_is (subst (λ (x : ℕ). AskSent frames f.switch i x f.key) nonce_is a))))
 asked_count frames n inc nonces key k f count s q r (by_put {epoch = e} {number = m} is p) = let no : NumberOf e m ≡ AskOf inc k = sym is ∙ r in absurd cc
 
-numbered_count : (frames : List Msg) (n : ℕ) (key : Key) (e k : ℕ) (f : First) → f.switch ≡ n → f.key ≡ key → f.request ≡ NumberOf e k → WasSent frames f → (inc : ℕ) × PutFrame frames n inc key e k
+numbered_count : (frames : List Msg) (n : ℕ) (key : Key) (e k : ℕ) (f : First) → f.switch ≡ n → f.key ≡ key → f.request ≡ NumberOf e k → WasSent frames f → (inc : ℕ) × NumberFrame frames n inc key e k
 numbered_count frames n key e k f s q r (by_ask {inc = i} {nonce = j} is a) = let no : AskOf i j ≡ NumberOf e k = sym is ∙ r in absurd cc
 numbered_count frames n key e k f s q r (by_put {inc = inc} {epoch = x} {number = m} is p) =
     let same : NumberOf x m ≡ NumberOf e k = sym is ∙ r in
     let epoch_is : x ≡ e = cc in
     let number_is : m ≡ k = cc in
-    (inc, subst (λ (y : ℕ). PutFrame frames y inc key e k) s (subst (λ (y : Key). PutFrame frames f.switch inc y e k) q (subst (λ (y : ℕ). PutFrame frames f.switch inc f.key y k) epoch_is (subst (λ (y : ℕ). PutFrame frames f.switch inc f.key x y) number_is p))))
+    (inc, subst (λ (y : ℕ). NumberFrame frames y inc key e k) s (subst (λ (y : Key). NumberFrame frames f.switch inc y e k) q (subst (λ (y : ℕ). NumberFrame frames f.switch inc f.key y k) epoch_is (subst (λ (y : ℕ). NumberFrame frames f.switch inc f.key x y) number_is p))))
 
-module _ (cells : ℕ) (w : World) (fs : List First) (h : FirstsHold fs w) (p : PutsFit w.frames w.switches w.replicas w.history.items) where
-  pub made_put : (n : ℕ) (key : Key) (e k : ℕ) → Made fs n key (NumberOf e k) → (inc : ℕ) × PutFrame w.frames n inc key e k
+module _ (cells : ℕ) (w : World) (fs : List First) (h : FirstsHold fs w) (p : NumberFramesFit w.frames w.switches w.replicas w.history.items) where
+  pub made_put : (n : ℕ) (key : Key) (e k : ℕ) → Made fs n key (NumberOf e k) → (inc : ℕ) × NumberFrame w.frames n inc key e k
   made_put n key e k m = numbered_count w.frames n key e k m.first m.switch_is m.key_is m.request_is (h.sent m.first m.there)
 
   pub counted_at : (n : ℕ) (node : SwitchNode) → slice_get w.switches n ≡ Some node → ((key : Key) (j : ℕ) → AskSent w.frames n node.state.inc j key → j ≤ node.state.nonces) → Counted fs n node.state.inc node.state.nonces node.state.slots
@@ -135,7 +135,7 @@ module _ (app : Application) (w : World) (fs : List First) (n : ℕ) (node : Swi
   module _ (known : Known app.cell_count w.frames w.switches w.replicas) (later : Known app.cell_count (w.frames ++ sent) after w.replicas)
       (told : (from to : Node) (nonce e : ℕ) (key : Key) (values : List ℕ) (load : Option Carried) → input ≡ msg from to (Body.Grant node.state.inc nonce e key values load) → In (committed_of w.replicas) (Entry.Grant key e n node.state.inc nonce))
       (asks : (key : Key) (j : ℕ) → AskSent w.frames n node.state.inc j key → j ≤ node.state.nonces) (sources : Sources w)
-      (p : PutsFit w.frames w.switches w.replicas w.history.items) (items : List Journaled) (q : PutsFit (w.frames ++ sent) after w.replicas items) (h : FirstsHold fs w) where
+      (p : NumberFramesFit w.frames w.switches w.replicas w.history.items) (items : List Journaled) (q : NumberFramesFit (w.frames ++ sent) after w.replicas items) (h : FirstsHold fs w) where
     says : Each (SaidNow state) sent
     says = step_says app node.state node.clock input (known.tidy n node at)
 
@@ -197,15 +197,15 @@ module _ (app : Application) (w : World) (fs : List First) (n : ℕ) (node : Swi
         let k : key ≡ f.key = ap (λ x. x.0) e in
         let q : NumberOf epoch number ≡ f.request = ap (λ x. x.1) e in
         by_put (sym q)
-        (subst (λ (x : ℕ). PutFrame (w.frames ++ sent) x inc f.key epoch number) (sym s)
-        (subst (λ (x : Key). PutFrame (w.frames ++ sent) n inc x epoch number) k (record { msg = m; there = to_append w.frames sent m (inr i); from_is = from; number_in = is_put m inc epoch number key delta load is })))
+        (subst (λ (x : ℕ). NumberFrame (w.frames ++ sent) x inc f.key epoch number) (sym s)
+        (subst (λ (x : Key). NumberFrame (w.frames ++ sent) n inc x epoch number) k (record { msg = m; there = to_append w.frames sent m (inr i); from_is = from; number_in = is_put m inc epoch number key delta load is })))
     body_sent m f i from s (Body.Snap inc epoch round key chunk chunks cells) is r =
         let e : (key, NumberOf epoch round) ≡ (f.key, f.request) = pair_of r in
         let k : key ≡ f.key = ap (λ x. x.0) e in
         let q : NumberOf epoch round ≡ f.request = ap (λ x. x.1) e in
         by_put (sym q)
-        (subst (λ (x : ℕ). PutFrame (w.frames ++ sent) x inc f.key epoch round) (sym s)
-        (subst (λ (x : Key). PutFrame (w.frames ++ sent) n inc x epoch round) k (record { msg = m; there = to_append w.frames sent m (inr i); from_is = from; number_in = is_snap m inc epoch round chunk chunks key cells is })))
+        (subst (λ (x : ℕ). NumberFrame (w.frames ++ sent) x inc f.key epoch round) (sym s)
+        (subst (λ (x : Key). NumberFrame (w.frames ++ sent) n inc x epoch round) k (record { msg = m; there = to_append w.frames sent m (inr i); from_is = from; number_in = is_snap m inc epoch round chunk chunks key cells is })))
     body_sent m f i from s (Body.Grant inc nonce epoch key cells load) is r = absurd cc
     body_sent m f i from s (Body.Busy inc nonce key mark) is r = absurd cc
     body_sent m f i from s (Body.Ack inc epoch upto key load) is r = absurd cc
@@ -239,7 +239,7 @@ module _ (app : Application) (w : World) (fs : List First) (n : ℕ) (node : Swi
         let by = sources.sender m (key, NumberOf epoch number) there (number_request m.body inc epoch number key is) in
         let mine = numbered_count (w.frames ++ sent) n f.key epoch number f s.switch_is refl request (sent_now f (inr s)) in
         let g = q.granted n mine.0 epoch number f.key mine.1 in
-        let theirs : PutFrame w.frames by.0 inc f.key epoch number = subst (λ (x : Key). PutFrame w.frames by.0 inc x epoch number) same_key (record { msg = m; there = there; from_is = by.1; number_in = is }) in
+        let theirs : NumberFrame w.frames by.0 inc f.key epoch number = subst (λ (x : Key). NumberFrame w.frames by.0 inc x epoch number) same_key (record { msg = m; there = there; from_is = by.1; number_in = is }) in
         let k = p.granted by.0 inc epoch number f.key theirs in
         let same : by.0 ≡ n = (one_grant app.cell_count f.key None (committed_of w.replicas) epoch by.0 inc k.nonce n mine.0 g.nonce (known.committed_fits f.key) k.there g.there).switch in
         let d : Made fs n key (NumberOf epoch number) = h.asked m n (key, NumberOf epoch number) there (by.1 ∙ ap (λ (x : ℕ). Node.Switch x) same) (number_request m.body inc epoch number key is) in

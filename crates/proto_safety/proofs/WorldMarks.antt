@@ -12,7 +12,9 @@ use Rattle.proto_model.specs.SwitchState.{SwitchStep, Item, open_switch}
 use Rattle.proto_model.specs.SwitchRows.{switch_step}
 use Rattle.proto_model.specs.Effects.{added, made_output, switch_moved}
 use Rattle.proto_model.specs.Feeds.{Each, Pairwise}
-use Rattle.proto_model.specs.World.{World, Setup, SwitchNode, Fed, Released, Journaled, opened, below, open_switch_node}
+use Rattle.proto_model.specs.World.{World, Setup, SwitchNode, Journaled, opened, below, open_switch_node}
+use Rattle.rp_base.specs.declared.legality.Fed.{Fed}
+use Rattle.rp_base.specs.declared.legality.Released.{Released}
 use Rattle.proto_model.specs.WorldStep.{world_after, advanced_switches, changed_at}
 use Rattle.proto_safety.specs.Books.{In}
 use Rattle.proto_safety.specs.CellLaws.{journal_marks, released_marks}

@@ -16,7 +16,7 @@ use Rattle.proto_model.specs.SwitchState.{Switch, Item, slot_at, open_switch}
 use Rattle.proto_model.specs.ReplicaState.{Replica}
 use Rattle.proto_data.specs.declared.message.Entry.{Entry}
 use Rattle.proto_data.specs.declared.message.Config.{Config}
-use Rattle.proto_model.specs.SwitchActs.{acked_lease}
+use Rattle.proto_model.specs.SwitchOutcomes.{acked_lease}
 use Rattle.proto_model.specs.SwitchRows.{switch_step}
 use Rattle.proto_model.specs.ReplicaRows.{store_step}
 use Rattle.proto_model.specs.World.{World, Setup, SwitchNode, opened, open_switch_node, below, running_switches, running_replicas}

@@ -9,13 +9,13 @@ use Rattle.proto_data.specs.declared.message.Msg.{Msg}
 use Rattle.proto_data.specs.declared.message.Body.{Body}
 use Rattle.proto_data.specs.declared.message.Input.{Input}
 use Rattle.rp_app.specs.Application.{Application, Delta, IsApplication, IsOutputOf}
-use Rattle.proto_model.specs.Carrying.{carried_output}
+use Rattle.proto_data.specs.Carrying.{carried_output}
 use Rattle.proto_model.specs.Table.{Key, Table}
 use Rattle.proto_model.specs.Feeds.{Each}
 use Rattle.proto_model.specs.Slot.{Slot, Lease, Asking, is_young}
 use Rattle.proto_model.specs.SwitchState.{Switch, SwitchDid, Item, lapsed, slot_at, head_node}
 use Rattle.proto_model.specs.SwitchRow.{SwitchRow, NewAsk, AskAgain, Mirrored, Late, Resends, switch_row}
-use Rattle.proto_model.specs.SwitchActs.{perform, item_of}
+use Rattle.proto_model.specs.SwitchOutcomes.{perform, item_of}
 use Rattle.proto_model.specs.SwitchAlarm.{alarm, resent_put, repeated_ask, repeated_asks, walk_order}
 use Rattle.proto_model.specs.SwitchRows.{switch_step}
 use Rattle.proto_model.specs.ReplicaRows.{store_step}
@@ -27,7 +27,7 @@ use Rattle.proto_safety.proofs.AlarmInduction.{WalkKeeps, walk_kept}
 use Rattle.proto_safety.proofs.FlowBooks.{in_front, in_last}
 use Rattle.proto_safety.proofs.Lists.{each_at, each_append, each_if, each_map, each_take, each_weaker}
 use Rattle.proto_safety.proofs.StoreOutputs.{message_output, alarm_output, output_weaker}
-use Rattle.proto_safety.proofs.SwitchTable.{Acts, mirrored, row_acts}
+use Rattle.proto_safety.proofs.SwitchTable.{RowTaken, mirrored, row_taken}
 use Rattle.proto_safety.proofs.FlowInduction.{Holds}
 use Rattle.proto_safety.proofs.FlowCellCount.{CellsCounted, Counted, SwitchCounted, AllCounted, cells_keep, counted_kept, all_counted, ready_counted, lapsed_switch_counted}
 use Rattle.proto_safety.proofs.Induction.{KeepsGiven, keeps_both, run_kept, Comes}
@@ -101,7 +101,7 @@ output_mark app cells p made is size e o at =
     let h : IsOutputOf p made.1 = subst (λ (m : Delta × Option Output). IsOutputOf p m.1) e (is.outputs cells p size) in
     let k : IsOutputOf p (Some o) = subst (λ (m : Option Output). IsOutputOf p m) at h in k.0
 
-row_carries : (app : Application) (event : ℕ) (items : List Journaled) (s : Switch) (now : ℕ) (input : Input) (row : SwitchRow) → IsApplication app → ((k : Key) → CellsCounted app.cell_count (slot_at s k)) → Acts app s now input row →
+row_carries : (app : Application) (event : ℕ) (items : List Journaled) (s : Switch) (now : ℕ) (input : Input) (row : SwitchRow) → IsApplication app → ((k : Key) → CellsCounted app.cell_count (slot_at s k)) → RowTaken app s now input row →
     Each (HasItem (items_after event items (perform s now row).1)) (perform s now row).1.sent
 row_carries app event items s now input (Mirrored key slot epoch mark delta out) is counted (mirrored {p = p} {made = made} r mode e room t) =
     put_carries event now items key epoch p.mark (slot.last + 1) made.0 s.inc made.1 (Node.Switch s.me) (head_node s.config.chain)
@@ -117,7 +117,7 @@ step_carries : (app : Application) (event : ℕ) (items : List Journaled) (node 
     Each (HasItem (items_after event items (switch_step app node.state node.clock input).1)) (switch_step app node.state node.clock input).1.sent
 step_carries app event items node input is counted =
     row_carries app event items (lapsed node.clock node.state) node.clock input (switch_row app (lapsed node.clock node.state) node.clock input) is (lapsed_switch_counted app node.state node.clock counted)
-    (row_acts app (lapsed node.clock node.state) node.clock input)
+    (row_taken app (lapsed node.clock node.state) node.clock input)
 
 -- ---- the world
 

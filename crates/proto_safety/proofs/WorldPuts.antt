@@ -42,7 +42,7 @@ NumberIn inc epoch number key (Body.Snap i e m k chunk chunks cells) = (i ≡ in
 NumberIn inc epoch number key _ = ⊥
 
 -- a Put or a Snap that switch n sent
-pub record PutFrame (frames : List Msg) (n inc : ℕ) (key : Key) (epoch number : ℕ) : Type 0 where
+pub record NumberFrame (frames : List Msg) (n inc : ℕ) (key : Key) (epoch number : ℕ) : Type 0 where
   pub msg : Msg
   pub there : In frames msg
   pub from_is : msg.from ≡ Node.Switch n
@@ -119,17 +119,17 @@ pub record Owned (es : List Entry) (key : Key) (epoch : ℕ) : Type 0 where
   pub inc : ℕ
   pub grant : GrantOf es n inc key epoch
 
-pub record PutsFit (frames : List Msg) (switches : List SwitchNode) (replicas : List ReplicaNode) (items : List Journaled) : Type 0 where
-  pub granted : (n inc e k : ℕ) (key : Key) → PutFrame frames n inc key e k → GrantOf (committed_of replicas) n inc key e
-  pub numbers : (n inc e k : ℕ) (key : Key) → PutFrame frames n inc key e k → NumberFits switches replicas key e k
+pub record NumberFramesFit (frames : List Msg) (switches : List SwitchNode) (replicas : List ReplicaNode) (items : List Journaled) : Type 0 where
+  pub granted : (n inc e k : ℕ) (key : Key) → NumberFrame frames n inc key e k → GrantOf (committed_of replicas) n inc key e
+  pub numbers : (n inc e k : ℕ) (key : Key) → NumberFrame frames n inc key e k → NumberFits switches replicas key e k
   pub item_granted : (j : Journaled) → In items j → Owned (committed_of replicas) j.item.key j.item.epoch
   pub item_numbers : (j : Journaled) → In items j → NumberFits switches replicas j.item.key j.item.epoch j.item.number
   pub in_turn : Pairwise InTurn items
 
-pub put_parts : (frames ms : List Msg) (n inc e k : ℕ) (key : Key) → PutFrame (frames ++ ms) n inc key e k → PutFrame frames n inc key e k ⊎ PutFrame ms n inc key e k
+pub put_parts : (frames ms : List Msg) (n inc e k : ℕ) (key : Key) → NumberFrame (frames ++ ms) n inc key e k → NumberFrame frames n inc key e k ⊎ NumberFrame ms n inc key e k
 put_parts frames ms n inc e k key p = parts_case (in_append frames ms p.msg p.there)
   where
-    parts_case : In frames p.msg ⊎ In ms p.msg → PutFrame frames n inc key e k ⊎ PutFrame ms n inc key e k
+    parts_case : In frames p.msg ⊎ In ms p.msg → NumberFrame frames n inc key e k ⊎ NumberFrame ms n inc key e k
     parts_case (inl i) = inl (record { msg = p.msg; there = i; from_is = p.from_is; number_in = p.number_in })
     parts_case (inr i) = inr (record { msg = p.msg; there = i; from_is = p.from_is; number_in = p.number_in })
 
@@ -153,7 +153,7 @@ module _ (app : Application) (frames : List Msg) (switches : List SwitchNode) (r
 
   module _ (k : Known app.cell_count frames switches replicas) (later : Known app.cell_count (frames ++ sent) after replicas)
       (told : (from to : Node) (nonce e : ℕ) (key : Key) (cells : List ℕ) (load : Option Carried) → input ≡ msg from to (Body.Grant node.state.inc nonce e key cells load) → In (committed_of replicas) (Entry.Grant key e n node.state.inc nonce))
-      (h : PutsFit frames switches replicas items) where
+      (h : NumberFramesFit frames switches replicas items) where
     -- in the epoch of a slot of this switch
     abbrev Here : Key → ℕ → ℕ → Type 0
     Here key e number = (slot : Slot) × (slot_at state key ≡ Some slot) × (epoch_of slot.lease ≡ Some e) × (number ≤ slot.last)
@@ -240,7 +240,7 @@ module _ (app : Application) (frames : List Msg) (switches : List SwitchNode) (r
       inc_is : inc ≡ state.inc
       here : Here key e number
 
-    own_put : (m inc e number : ℕ) (key : Key) → PutFrame sent m inc key e number → OwnPut m inc key e number
+    own_put : (m inc e number : ℕ) (key : Key) → NumberFrame sent m inc key e number → OwnPut m inc key e number
     own_put m inc e number key p =
         let s : SentNow state p.msg = each_in (SentNow state) sent p.msg (step_says app node.state node.clock input (k.tidy n node at)) p.there in
         let from : Node.Switch m ≡ Node.Switch state.me = sym p.from_is ∙ s.0 in
@@ -273,14 +273,14 @@ module _ (app : Application) (frames : List Msg) (switches : List SwitchNode) (r
         number_now (Body.Echo of load) h is = absurd is
         number_now (Body.Config c) h is = absurd is
 
-    put_granted : (m inc e number : ℕ) (key : Key) → PutFrame frames m inc key e number ⊎ PutFrame sent m inc key e number → GrantOf (committed_of replicas) m inc key e
+    put_granted : (m inc e number : ℕ) (key : Key) → NumberFrame frames m inc key e number ⊎ NumberFrame sent m inc key e number → GrantOf (committed_of replicas) m inc key e
     put_granted m inc e number key (inl p) = h.granted m inc e number key p
     put_granted m inc e number key (inr p) =
         let o = own_put m inc e number key p in
         let g = later.leased n moved key o.here.0 e at_after o.here.1 o.here.2 in
         subst (λ (x : ℕ). GrantOf (committed_of replicas) x inc key e) (sym o.sender) (subst (λ (x : ℕ). GrantOf (committed_of replicas) n x key e) (sym o.inc_is) g)
 
-    put_numbers : (m inc e number : ℕ) (key : Key) → PutFrame frames m inc key e number ⊎ PutFrame sent m inc key e number → NumberFits after replicas key e number
+    put_numbers : (m inc e number : ℕ) (key : Key) → NumberFrame frames m inc key e number ⊎ NumberFrame sent m inc key e number → NumberFits after replicas key e number
     put_numbers m inc e number key (inl p) = still_fits key e number (h.numbers m inc e number key p)
     put_numbers m inc e number key (inr p) = now_fits key e number (own_put m inc e number key p).here
 
@@ -337,7 +337,7 @@ module _ (app : Application) (frames : List Msg) (switches : List SwitchNode) (r
         turns [] sub = tt
         turns (j ∷ js) sub = (turn j (sub j (inl refl)), turns js (λ y i. sub y (inr i)))
 
-    pub moved_puts : (event : ℕ) (out : Option Output) → PutsFit (frames ++ sent) after replicas (items ++ more event out)
+    pub moved_puts : (event : ℕ) (out : Option Output) → NumberFramesFit (frames ++ sent) after replicas (items ++ more event out)
     moved_puts event out =
         let f = items_fit event out (switch_step app node.state node.clock input).1.item (λ i e. step_item app node.state node.clock input i e) in
         record {

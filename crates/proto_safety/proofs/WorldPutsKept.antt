@@ -36,13 +36,13 @@ use Rattle.proto_safety.proofs.StoreBooks.{SentBooks}
 use Rattle.proto_safety.proofs.BooksStep.{step_sent, moved_committed}
 use Rattle.proto_safety.proofs.WorldBooks.{known_input, advanced_committed, stopped_grows}
 use Rattle.proto_safety.proofs.WorldFlows.{told_input}
-use Rattle.proto_safety.proofs.WorldPuts.{NumberIn, Known, Owned, PutsFit, moved_puts}
-use Rattle.proto_safety.proofs.PutsKept.{NoPut, SlotWas, GrantWas, not_again, changed_puts}
+use Rattle.proto_safety.proofs.WorldPuts.{NumberIn, Known, Owned, NumberFramesFit, moved_puts}
+use Rattle.proto_safety.proofs.PutsKept.{Unnumbered, SlotWas, GrantWas, not_again, changed_puts}
 use Rattle.proto_safety.proofs.Ground.{Ground, ground_kept, known_of}
 use Rattle.proto_safety.proofs.Induction.{KeepsGiven, Comes, with_fed}
 
 abbrev pub PutsOf : World → Type 0
-PutsOf w = PutsFit w.frames w.switches w.replicas w.history.items
+PutsOf w = NumberFramesFit w.frames w.switches w.replicas w.history.items
 
 -- ---- switches and replicas that were there before
 
@@ -62,9 +62,9 @@ books_as_they_were nodes r replica key e s i m at up there = inl (record { node_
 
 -- no frame is sent
 quietly : (frames : List Msg) (switches after : List SwitchNode) (replicas later : List ReplicaNode) (items : List Journaled) → IsPrefix (committed_of replicas) (committed_of later) →
-    AllAt (SlotsWere switches) after → GrantsWere replicas later → PutsFit frames switches replicas items → PutsFit frames after later items
+    AllAt (SlotsWere switches) after → GrantsWere replicas later → NumberFramesFit frames switches replicas items → NumberFramesFit frames after later items
 quietly frames switches after replicas later items grows slots grants h =
-    subst (λ (fs : List Msg). PutsFit fs after later items) (append-nil frames)
+    subst (λ (fs : List Msg). NumberFramesFit fs after later items) (append-nil frames)
     (changed_puts frames [] switches after replicas later items tt grows (λ n node key slot at found. slots n node at key slot found) grants h)
 
 pub same_prefix : (es : List Entry) → IsPrefix es es
@@ -72,7 +72,7 @@ same_prefix es = record { rest = []; is = append-nil es }
 
 -- ---- a replica's step
 
-no_put : (r : Replica) (es : List Entry) (m : Msg) → SentBooks r es m.from m.to m.body → NoPut m
+no_put : (r : Replica) (es : List Entry) (m : Msg) → SentBooks r es m.from m.to m.body → Unnumbered m
 no_put r es m s inc e k key is = body_case m.body s is
   where
     body_case : (b : Body) → SentBooks r es m.from m.to b → NumberIn inc e k key b → ⊥
@@ -131,11 +131,11 @@ stopped_grants nodes n r replica key e s i m at up there = node_case (at_changed
     node_case (inl p) = absurd (false≢true (sym (ap (λ (x : ReplicaNode). x.runs) p.1.1.1) ∙ up))
     node_case (inr p) = inl (record { node_was = replica; at = p.1; up = up; there = there })
 
-announced_no_puts : (w : World) → Each NoPut (announcements w)
+announced_no_puts : (w : World) → Each Unnumbered (announcements w)
 announced_no_puts w =
-    each_append NoPut (map (λ n. config_msg w (Node.Switch n)) (running_switches w)) _
-    (each_map NoPut (λ n. config_msg w (Node.Switch n)) (running_switches w) (λ n inc e k key is. absurd is))
-    (each_map NoPut (λ n. config_msg w (Node.Replica n)) (running_replicas w) (λ n inc e k key is. absurd is))
+    each_append Unnumbered (map (λ n. config_msg w (Node.Switch n)) (running_switches w)) _
+    (each_map Unnumbered (λ n. config_msg w (Node.Switch n)) (running_switches w) (λ n inc e k key is. absurd is))
+    (each_map Unnumbered (λ n. config_msg w (Node.Replica n)) (running_replicas w) (λ n inc e k key is. absurd is))
 
 -- ---- every change
 
@@ -172,7 +172,7 @@ puts_kept app =
           let new : ReplicaNode = record { runs = node.runs; clock = node.clock; state = step.0; book = book_after node.clock w.event node.book step.1.applied } in
           let stands = (g.0.0.0.0.0.1.nodes n node at).stands in
           changed_puts w.frames step.1.sent w.switches w.switches w.replicas (set w.replicas n new) w.history.items
-          (each_weaker (λ (m : Msg). SentBooks step.0 (entries_of new.book) m.from m.to m.body) NoPut step.1.sent (λ m s. no_put step.0 (entries_of new.book) m s) (step_sent node.state node.book node.clock w.event input stands))
+          (each_weaker (λ (m : Msg). SentBooks step.0 (entries_of new.book) m.from m.to m.body) Unnumbered step.1.sent (λ m s. no_put step.0 (entries_of new.book) m s) (step_sent node.state node.book node.clock w.event input stands))
           (moved_committed g.0.0.0.0.0.0 w.config w.replicas n node w.event input at up g.0.0.0.0.0.1.configs g.0.0.0.0.0.1.nodes (known_input g.0.0.0.0.0.0 w n input from g.0.0.0.0.0.1))
           (λ m x key slot there found. as_they_were w.switches m x there key slot found)
           (applied_grants app w n node input node.book at up (known_of app.cell_count w g) new refl (λ key. later.fits n new key (get-set_same w.replicas n node new at))) h;

@@ -10,14 +10,16 @@ use Rattle.proto_data.specs.declared.message.Entry.{Entry}
 use Rattle.proto_data.specs.declared.message.Input.{Input}
 use Rattle.proto_data.specs.declared.message.Carried.{Carried}
 use Rattle.rp_app.specs.Application.{Application, IsApplication}
-use Rattle.proto_model.specs.Carrying.{packet_of}
+use Rattle.proto_data.specs.Carrying.{packet_of}
 use Rattle.proto_model.specs.Table.{Key}
 use Rattle.proto_model.specs.Effects.{added, switch_moved, replica_moved}
 use Rattle.proto_model.specs.Feeds.{packet_at, key_at}
 use Rattle.proto_model.specs.ReplicaRows.{store_step}
 use Rattle.proto_model.specs.Stands.{entries_of}
 use Rattle.proto_model.specs.SwitchRows.{switch_step}
-use Rattle.proto_model.specs.World.{World, SwitchNode, ReplicaNode, Fed, Journaled, Released}
+use Rattle.proto_model.specs.World.{World, SwitchNode, ReplicaNode, Journaled}
+use Rattle.rp_base.specs.declared.legality.Fed.{Fed}
+use Rattle.rp_base.specs.declared.legality.Released.{Released}
 use Rattle.proto_model.specs.WorldStep.{advanced, advanced_replicas, stopped, Stops}
 use Rattle.proto_safety.specs.Books.{In, IsPrefix, committed_of}
 use Rattle.proto_safety.specs.Flows.{AckedIn, FitsFrom, Reply}

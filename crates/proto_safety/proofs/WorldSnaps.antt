@@ -21,7 +21,8 @@ use Rattle.proto_model.specs.Feeds.{Each}
 use Rattle.proto_model.specs.Committed.{is_in}
 use Rattle.proto_model.specs.Effects.{switch_moved, replica_moved}
 use Rattle.proto_model.specs.Stands.{entries_of}
-use Rattle.proto_model.specs.World.{World, SwitchNode, Fed, Journaled, RoundBegun, running_switches, running_replicas}
+use Rattle.proto_model.specs.World.{World, SwitchNode, Journaled, RoundBegun, running_switches, running_replicas}
+use Rattle.rp_base.specs.declared.legality.Fed.{Fed}
 use Rattle.proto_model.specs.WorldStep.{advanced, advanced_replicas, stopped, announcements, config_msg}
 use Rattle.proto_safety.specs.Books.{In, IsPrefix, committed_of}
 use Rattle.proto_safety.specs.Flows.{FitsFrom}

@@ -7,6 +7,7 @@ use Rattle.proto_data.specs.declared.message.Entry.{Entry}
 use Rattle.proto_data.specs.declared.message.Config.{Config}
 use Rattle.proto_data.specs.declared.message.Carried.{Carried}
 use Rattle.proto_model.specs.ReplicaState.{is_head, is_tail}
+use Rattle.proto_model.specs.Table.{Key}
 use Rattle.proto_model.specs.Feeds.{Each, Pairwise}
 use Rattle.proto_model.specs.Stands.{entries_of, Stands}
 use Rattle.proto_model.specs.Committed.{last_running_book}
@@ -16,6 +17,13 @@ use Rattle.proto_model.specs.World.{World, ReplicaNode}
 abbrev pub In : {A : Type 0} → List A → A → Type 0
 In [] x = ⊥
 In (y ∷ ys) x = (y ≡ x) ⊎ In ys x
+
+-- the epoch has a Grant among these entries
+pub record IsGranted (entries : List Entry) (key : Key) (epoch : ℕ) : Type 0 where
+  pub switch : ℕ
+  pub inc : ℕ
+  pub nonce : ℕ
+  pub there : In entries (Entry.Grant key epoch switch inc nonce)
 
 pub record IsPrefix {A : Type 0} (xs ys : List A) : Type 0 where
   pub rest : List A

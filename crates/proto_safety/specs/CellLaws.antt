@@ -14,7 +14,9 @@ use Rattle.proto_model.specs.SwitchState.{Copy, is_of, slot_at}
 use Rattle.proto_model.specs.Feeds.{Each, Pairwise, packet_at, packets_at, key_at}
 use Rattle.proto_model.specs.Stands.{entries_of}
 use Rattle.proto_model.specs.Committed.{journal, closed_items, committed_book, epochs_of, serial_marks}
-use Rattle.proto_model.specs.World.{World, SwitchNode, ReplicaNode, Journaled, Released, Fed}
+use Rattle.proto_model.specs.World.{World, SwitchNode, ReplicaNode, Journaled}
+use Rattle.rp_base.specs.declared.legality.Released.{Released}
+use Rattle.rp_base.specs.declared.legality.Fed.{Fed}
 use Rattle.proto_model.specs.Legal.{StandsIn}
 use Rattle.proto_safety.specs.Books.{In, Runs, committed_of}
 use Rattle.proto_safety.specs.LeaseLaws.{SlotAt, HasNonce}

@@ -1,18 +1,11 @@
 -- Epochs of a flow in a book, and what is committed of one.
-use Rattle.std.specs.Prelude.{ℕ, ◌≡◌, ◌≤◌, List, Some, ◌++◌, ◌∷◌}
+use Rattle.std.specs.Prelude.{ℕ, ◌≡◌, ◌≤◌, List, [], Some, ◌++◌, ◌∷◌}
 use Rattle.proto_data.specs.declared.message.Entry.{Entry}
 use Rattle.proto_model.specs.Table.{Key}
 use Rattle.proto_model.specs.Committed.{closing}
 use Rattle.proto_model.specs.World.{World}
-use Rattle.proto_safety.specs.Books.{In}
+use Rattle.proto_safety.specs.Books.{In, IsGranted}
 use Rattle.proto_safety.specs.LeaseLaws.{HasEpoch}
-
--- the epoch has a Grant among these entries
-pub record IsGranted (entries : List Entry) (key : Key) (epoch : ℕ) : Type 0 where
-  pub switch : ℕ
-  pub inc : ℕ
-  pub nonce : ℕ
-  pub there : In entries (Entry.Grant key epoch switch inc nonce)
 
 -- two Grants of one epoch in a book are one: the same owner and nonce, at one place
 pub record OneGrant (s i m t j p : ℕ) (front other : List Entry) : Type 0 where
@@ -22,8 +15,8 @@ pub record OneGrant (s i m t j p : ℕ) (front other : List Entry) : Type 0 wher
   pub place : front ≡ other
 
 pub record EpochsOf (entries : List Entry) : Type 0 where
-  -- no entry of an epoch that isn't granted
-  pub granted : (key : Key) (epoch : ℕ) (e : Entry) → In entries e → HasEpoch key epoch e → IsGranted entries key epoch
+  -- an entry is its epoch's Grant, or stands behind it
+  pub granted : (key : Key) (epoch : ℕ) (e : Entry) (front behind : List Entry) → entries ≡ front ++ e ∷ behind → HasEpoch key epoch e → IsGranted (front ++ e ∷ []) key epoch
   -- an epoch has one Grant
   pub one :
       (key : Key) (epoch s i m t j p : ℕ) (front behind other rest : List Entry) → entries ≡ front ++ Entry.Grant key epoch s i m ∷ behind →

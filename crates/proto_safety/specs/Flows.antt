@@ -11,7 +11,7 @@ use Rattle.proto_model.specs.Committed.{number_in, committed_records}
 use Rattle.proto_model.specs.World.{World}
 use Rattle.proto_safety.specs.Books.{In, IsPrefix}
 
-pub record Flow : Type 0 where
+pub record FlowRecord : Type 0 where
   pub epoch : ℕ
   pub switch : ℕ
   pub inc : ℕ
@@ -19,30 +19,30 @@ pub record Flow : Type 0 where
   pub last : ℕ
   pub cells : List ℕ
 
-abbrev pub flow_in : Record → Flow
+abbrev pub flow_in : Record → FlowRecord
 flow_in r = record { epoch = r.epoch; switch = r.switch; inc = r.inc; nonce = r.nonce; last = r.last; cells = r.cells }
 
-abbrev pub flow_cells : ℕ → Option Flow → List ℕ
+abbrev pub flow_cells : ℕ → Option FlowRecord → List ℕ
 flow_cells n None = zeros n
 flow_cells n (Some f) = f.cells
 
-abbrev pub flow_step : ℕ → Key → Option Flow → Entry → Option Flow
+abbrev pub flow_step : ℕ → Key → Option FlowRecord → Entry → Option FlowRecord
 flow_step n key o (Entry.Grant k epoch switch inc nonce) =
     if same_key k key then Some (record { epoch = epoch; switch = switch; inc = inc; nonce = nonce; last = 0; cells = flow_cells n o }) else o
 flow_step n key o (Entry.Put k epoch number delta) =
-    if same_key k key then option_map (λ (f : Flow). record f { last = number; cells = written f.cells delta }) o else o
+    if same_key k key then option_map (λ (f : FlowRecord). record f { last = number; cells = written f.cells delta }) o else o
 flow_step n key o (Entry.Snap k epoch round values) =
-    if same_key k key then option_map (λ (f : Flow). record f { last = round; cells = values }) o else o
+    if same_key k key then option_map (λ (f : FlowRecord). record f { last = round; cells = values }) o else o
 
-abbrev pub flow_from : ℕ → Key → Option Flow → List Entry → Option Flow
+abbrev pub flow_from : ℕ → Key → Option FlowRecord → List Entry → Option FlowRecord
 flow_from n key o entries = fold (flow_step n key) o entries
 
 -- the flow after a book
-abbrev pub flow_of : ℕ → Key → List Entry → Option Flow
+abbrev pub flow_of : ℕ → Key → List Entry → Option FlowRecord
 flow_of n key entries = flow_from n key None entries
 
 -- the entry comes next for its flow
-abbrev pub Follows : Option Flow → Entry → Type 0
+abbrev pub Follows : Option FlowRecord → Entry → Type 0
 Follows None (Entry.Grant k epoch switch inc nonce) = epoch ≡ 1
 Follows (Some f) (Entry.Grant k epoch switch inc nonce) = epoch ≡ f.epoch + 1
 Follows None (Entry.Put k epoch number delta) = ⊥
@@ -51,7 +51,7 @@ Follows None (Entry.Snap k epoch round values) = ⊥
 Follows (Some f) (Entry.Snap k epoch round values) = (f.epoch ≡ epoch) × (round ≡ f.last + 1)
 
 -- each entry of this flow comes next
-abbrev pub FitsFrom : ℕ → Key → Option Flow → List Entry → Type 0
+abbrev pub FitsFrom : ℕ → Key → Option FlowRecord → List Entry → Type 0
 FitsFrom n key o [] = Unit {0}
 FitsFrom n key o (e ∷ es) = (same_key (entry_key e) key ≡ true → Follows o e) × FitsFrom n key (flow_step n key o e) es
 

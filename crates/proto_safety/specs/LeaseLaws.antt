@@ -8,7 +8,7 @@ use Rattle.proto_model.specs.Records.{Booked}
 use Rattle.proto_model.specs.Stands.{entries_of}
 use Rattle.proto_model.specs.Clocks.{clocks, Aged}
 use Rattle.proto_model.specs.World.{World, SwitchNode, ReplicaNode}
-use Rattle.proto_safety.specs.Books.{In, Runs, committed_of}
+use Rattle.proto_safety.specs.Books.{In, IsGranted, Runs, committed_of}
 
 -- an Ask of this incarnation and nonce, or a Put or a round of this epoch with this number
 pub data Request : Type 0 where
@@ -85,14 +85,13 @@ pub record NonceAt (o : Option Slot) (k : ℕ) : Type 0 where
 abbrev pub ClockPast : World → ℕ → ℕ → Type 0
 ClockPast w n moment = (node : SwitchNode) → slice_get w.switches n ≡ Some node → moment ≤ node.clock
 
--- a Grant of the next epoch, as it stands in a replica's book behind the Grant of this one; the replica may have failed
-pub record HandedOver (w : World) (key : Key) (epoch switch inc nonce next_switch next_inc next_nonce : ℕ) (before : List Entry) : Type 0 where
+-- a Grant of the next epoch, as it stands in a replica's book; the replica may have failed
+pub record HandedOver (w : World) (key : Key) (epoch switch inc nonce : ℕ) (before : List Entry) : Type 0 where
   pub replica : ℕ
   pub node : ReplicaNode
   pub at : slice_get w.replicas replica ≡ Some node
   pub behind : List Entry
-  pub book_is : entries_of node.book ≡ before ++ Entry.Grant key (epoch + 1) next_switch next_inc next_nonce ∷ behind
-  pub granted : In before (Entry.Grant key epoch switch inc nonce)
+  pub book_is : entries_of node.book ≡ before ++ Entry.Grant key (epoch + 1) switch inc nonce ∷ behind
 
 pub record Leases (firsts : List First) (w : World) : Type 0 where
   -- a clock at a store went on since it applied an entry at most as far, within the ratio, as the switch's did since it first sent the request
@@ -105,11 +104,12 @@ pub record Leases (firsts : List First) (w : World) : Type 0 where
   pub greatest :
       (n inc nonce k : ℕ) (key : Key) (node : SwitchNode) (slot : Slot) (f : First) → SlotAt w n key node slot → HasNonce slot.lease k → In firsts f → f.switch ≡ n → f.key ≡ key →
       f.request ≡ AskOf inc nonce → NotLater inc nonce node.state.inc k
-  -- the next epoch goes to the same switch, or to any once all that is behind it of this epoch is over
+  -- a Grant of the next epoch stands behind that of this one; it goes to the same switch, or to any once all that is behind it of this epoch is over
   pub handed :
-      (key : Key) (epoch switch inc nonce next_switch next_inc next_nonce : ℕ) (before : List Entry) → HandedOver w key epoch switch inc nonce next_switch next_inc next_nonce before →
-      ((next_switch ≡ switch) × IsLater next_inc next_nonce inc nonce)
-      ⊎ ((f : First) (e : Entry) → In firsts f → In before e → HasEpoch key epoch e → IsEntryOf f e → ClockPast w f.switch (f.moment + w.terms.t_switch))
+      (key : Key) (epoch switch inc nonce : ℕ) (before : List Entry) → 1 ≤ epoch → HandedOver w key epoch switch inc nonce before →
+      (old : IsGranted before key epoch)
+      × (((switch ≡ old.switch) × IsLater inc nonce old.inc old.nonce)
+      ⊎ ((f : First) (e : Entry) → In firsts f → In before e → HasEpoch key epoch e → IsEntryOf f e → ClockPast w f.switch (f.moment + w.terms.t_switch)))
   -- so no slot of an earlier epoch is live
   pub over :
       (r n epoch later : ℕ) (key : Key) (replica : ReplicaNode) (node : SwitchNode) (slot : Slot) (e : Entry) (nonce expiry : ℕ) → Runs w r replica → In (entries_of replica.book) e → HasEpoch key later e → epoch < later →

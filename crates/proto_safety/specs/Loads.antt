@@ -6,8 +6,9 @@ use Rattle.proto_data.specs.declared.message.Echoed.{Echoed}
 use Rattle.proto_data.specs.declared.message.Carried.{Carried}
 use Rattle.proto_model.specs.Table.{Key}
 use Rattle.rp_app.specs.Application.{Application}
-use Rattle.proto_model.specs.Carrying.{packet_of, output_of}
-use Rattle.proto_model.specs.World.{Fed, Journaled}
+use Rattle.proto_data.specs.Carrying.{packet_of, output_of}
+use Rattle.proto_model.specs.World.{Journaled}
+use Rattle.rp_base.specs.declared.legality.Fed.{Fed}
 use Rattle.proto_safety.specs.Books.{In}
 use Rattle.proto_model.specs.Feeds.{packet_at}
 

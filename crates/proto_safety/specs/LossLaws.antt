@@ -15,7 +15,9 @@ use Rattle.proto_model.specs.Committed.{is_in, number_in, greater, journal, clos
 use Rattle.proto_model.specs.Kept.{is_round, base, after_marks, marks_in}
 use Rattle.proto_model.specs.Legal.{IsOutputIn}
 use Rattle.proto_model.specs.Loss.{IsBounded, MarksOnce, InOrder, KeylessReleased}
-use Rattle.proto_model.specs.World.{World, Setup, SwitchNode, Fed, Journaled, Released, RoundBegun, opened}
+use Rattle.proto_model.specs.World.{World, Setup, SwitchNode, Journaled, RoundBegun, opened}
+use Rattle.rp_base.specs.declared.legality.Fed.{Fed}
+use Rattle.rp_base.specs.declared.legality.Released.{Released}
 use Rattle.proto_model.specs.WorldStep.{world_after}
 use Rattle.proto_safety.specs.Books.{In, committed_of}
 use Rattle.proto_safety.specs.CellLaws.{LeasedAt}
@@ -160,5 +162,5 @@ pub record HistoryStands (app : Application) (w : World) : Type 0 where
 -- item would have to be less than 0 before itself
 abbrev pub LossesBounded : Application → Setup → ℕ → Type 0
 LossesBounded app setup bound =
-    IsApplication app → setup.terms.mode ≡ Mode.Snapshot bound → 1 ≤ bound → TermsHold setup.terms.t_switch setup.terms.t_store setup.terms.ratio → 1 ≤ setup.terms.t_store → (events : List Event) →
+    IsApplication app → setup.terms.mode ≡ Mode.Snapshot bound → 1 ≤ bound → TermsHold setup.terms.t_switch setup.terms.t_store setup.terms.ratio → (events : List Event) →
     IsBounded app bound (world_after app (opened app.cell_count setup) events)

@@ -18,13 +18,13 @@ ghost use Rattle.proto_safety.specs.CellLaws.{CellsStand, SerialStays};
 /// is committed; a released mark with a key stands in its flow's serial list.
 pub fn cells_stand()
     ensures { (app : Application) → IsApplication app → (setup : Setup) → setup.terms.mode ≡ Mode.Strict →
-        TermsHold setup.terms.t_switch setup.terms.t_store setup.terms.ratio → 1 ≤ setup.terms.t_store → (events : List Event) →
+        TermsHold setup.terms.t_switch setup.terms.t_store setup.terms.ratio → (events : List Event) →
         CellsStand app (world_after app (opened app.cell_count setup) events) }
 {}
 
 /// In strict mode, with such terms: what stands before a released mark in its flow's serial list never changes, whatever follows.
 pub fn serial_lists_stay()
     ensures { (app : Application) → IsApplication app → (setup : Setup) → setup.terms.mode ≡ Mode.Strict →
-        TermsHold setup.terms.t_switch setup.terms.t_store setup.terms.ratio → 1 ≤ setup.terms.t_store → (events more : List Event) →
+        TermsHold setup.terms.t_switch setup.terms.t_store setup.terms.ratio → (events more : List Event) →
         SerialStays app (world_after app (opened app.cell_count setup) events) (world_after app (world_after app (opened app.cell_count setup) events) more) }
 {}

@@ -6,7 +6,8 @@ ghost use Rattle.rp_app.specs.Application.{Application};
 ghost use Rattle.proto_model.specs.Clocks.{Aged, clocks};
 ghost use Rattle.proto_model.specs.Feeds.{Pairwise};
 ghost use Rattle.proto_model.specs.Runs.{Run, before, clock};
-ghost use Rattle.proto_model.specs.World.{World, Setup, Fed, opened};
+ghost use Rattle.proto_model.specs.World.{World, Setup, opened};
+ghost use Rattle.rp_base.specs.declared.legality.Fed.{Fed};
 ghost use Rattle.proto_model.specs.WorldStep.{world_after, world_step};
 ghost use Rattle.proto_safety.specs.Frames.{Grows};
 

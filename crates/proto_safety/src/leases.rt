@@ -1,6 +1,6 @@
 //! Leases: how long they last, whose they are, and when a flow goes over to its next epoch.
 
-ghost use Rattle.std.specs.Prelude.{◌⊎◌, ◌≡◌, ◌≤◌, [], ◌∷◌, ◌++◌, List};
+ghost use Rattle.std.specs.Prelude.{◌⊎◌, ◌≡◌, [], ◌∷◌, ◌++◌, List};
 ghost use Rattle.rp_base.specs.Clocks.{TermsHold};
 ghost use Rattle.rp_base.specs.declared.event.Event.{Event};
 ghost use Rattle.rp_app.specs.Application.{Application};
@@ -30,6 +30,6 @@ pub fn first_sendings_stand()
 /// running replica has a later epoch. Switches that failed keep to it too.
 pub fn leases_hold()
     ensures { (app : Application) (setup : Setup) →
-        TermsHold setup.terms.t_switch setup.terms.t_store setup.terms.ratio → 1 ≤ setup.terms.t_store → (events : List Event) →
+        TermsHold setup.terms.t_switch setup.terms.t_store setup.terms.ratio → (events : List Event) →
         Leases (firsts_of app setup events) (world_after app (opened app.cell_count setup) events) }
 {}

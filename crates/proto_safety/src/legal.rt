@@ -13,10 +13,10 @@ ghost use Rattle.proto_safety.specs.NeededPremises.{early_run, snapshot_run, unm
 /// In strict mode, with terms by which a lease has ended at its switch before the store gives the flow to another, the history
 /// is legal after every list of events: each mark of a serial list was fed, has the list's key and stands once over all lists;
 /// a released mark stands in its flow's list, is released once, and its output is that of one switch after the packets before
-/// it; none stands before one that was released before it was fed; the committed cells are those after the whole list.
+/// it; none stands before one that was released before it was fed, and none was released before it was fed itself; the committed cells are those after the whole list.
 pub fn runs_are_legal()
     ensures { (app : Application) → IsApplication app → (setup : Setup) → setup.terms.mode ≡ Mode.Strict →
-        TermsHold setup.terms.t_switch setup.terms.t_store setup.terms.ratio → 1 ≤ setup.terms.t_store → (events : List Event) →
+        TermsHold setup.terms.t_switch setup.terms.t_store setup.terms.ratio → (events : List Event) →
         IsLegal app (world_after app (opened app.cell_count setup) events) }
 {}
 

@@ -5,19 +5,21 @@ ghost use Rattle.rp_base.specs.Clocks.{TermsHold};
 ghost use Rattle.rp_base.specs.declared.event.Event.{Event};
 ghost use Rattle.rp_base.specs.declared.event.Refusal.{Refusal};
 ghost use Rattle.rp_app.specs.Application.{Application, IsApplication};
+ghost use Rattle.proto_data.specs.declared.message.Body.{Body};
 ghost use Rattle.proto_data.specs.declared.message.Msg.{Msg};
 ghost use Rattle.proto_data.specs.declared.terms.Mode.{Mode};
-ghost use Rattle.proto_model.specs.Committed.{closings, committed_book};
+ghost use Rattle.proto_model.specs.Committed.{committed_flows, committed_book};
 ghost use Rattle.proto_model.specs.Feeds.{Each};
+ghost use Rattle.proto_model.specs.Legal.{IsLegal};
 ghost use Rattle.proto_model.specs.Pumping.{Received, linked_run};
-ghost use Rattle.proto_model.specs.Lines.{Refused};
+ghost use Rattle.proto_model.specs.Lines.{Refused, printed};
 ghost use Rattle.proto_model.specs.Table.{Key};
 ghost use Rattle.proto_model.specs.World.{Setup, ReplicaNode, opened};
 ghost use Rattle.proto_model.specs.WorldStep.{Refuses, Pumps};
 ghost use Rattle.proto_safety.specs.Books.{In};
 ghost use Rattle.proto_safety.specs.Changes.{Keeps};
 ghost use Rattle.proto_safety.specs.EpochOrder.{EpochsRise, SerialByEpoch};
-ghost use Rattle.proto_safety.specs.LegalLines.{LegalLines, HistoryMeetsRules, feeds_in, releases_in, flows_in, linked_act, linked_report};
+ghost use Rattle.proto_safety.specs.LegalLines.{LegalLines, feeds_in, releases_in, flows_in, linked_act, linked_report};
 
 use crate::changes::Fact;
 
@@ -29,26 +31,26 @@ pub fn kept_facts_hold_over_links<I: Fact>()
 
 /// In strict mode, with terms that hold, the report of every run over a link is legal, with frames or without them.
 pub fn linked_reports_are_legal()
-    ensures { (spelled : Msg → List ℕ) (app : Application) → IsApplication app → (setup : Setup) → setup.terms.mode ≡ Mode.Strict →
-        TermsHold setup.terms.t_switch setup.terms.t_store setup.terms.ratio → 1 ≤ setup.terms.t_store →
-        (events : List Event) (received : List Received) (frames : Bool) → LegalLines app events (linked_report spelled frames app setup events received) }
+    ensures { (kind : Body → ℕ) (spelled : Msg → List ℕ) (app : Application) → IsApplication app → (setup : Setup) → setup.terms.mode ≡ Mode.Strict →
+        TermsHold setup.terms.t_switch setup.terms.t_store setup.terms.ratio →
+        (events : List Event) (received : List Received) (frames : Bool) → LegalLines app events (printed kind spelled (linked_report spelled frames app setup events received)) }
 {}
 
 /// So is its history.
-pub fn linked_histories_meet_the_rules()
+pub fn linked_runs_are_legal()
     ensures { (app : Application) → IsApplication app → (spelled : Msg → List ℕ) (setup : Setup) → setup.terms.mode ≡ Mode.Strict →
-        TermsHold setup.terms.t_switch setup.terms.t_store setup.terms.ratio → 1 ≤ setup.terms.t_store →
-        (events : List Event) (received : List Received) → HistoryMeetsRules app (linked_run spelled app setup events received).world }
+        TermsHold setup.terms.t_switch setup.terms.t_store setup.terms.ratio →
+        (events : List Event) (received : List Received) → IsLegal app (linked_run spelled app setup events received).world }
 {}
 
 /// What was fed, released and committed is what the report's lines say.
 pub fn linked_lines_are_told()
-    ensures feeds { (spelled : Msg → List ℕ) (app : Application) (setup : Setup) (events : List Event) (received : List Received) (frames : Bool) →
-        feeds_in events (linked_report spelled frames app setup events received) ≡ (linked_run spelled app setup events received).world.history.fed }
-    ensures releases { (spelled : Msg → List ℕ) (app : Application) (setup : Setup) (events : List Event) (received : List Received) (frames : Bool) →
-        releases_in (linked_report spelled frames app setup events received) ≡ (linked_run spelled app setup events received).world.history.released }
-    ensures flows { (spelled : Msg → List ℕ) (app : Application) (setup : Setup) → setup.terms.mode ≡ Mode.Strict → (events : List Event) (received : List Received) (frames : Bool) →
-        flows_in (linked_report spelled frames app setup events received) ≡ closings app.cell_count (linked_run spelled app setup events received).world }
+    ensures feeds { (kind : Body → ℕ) (spelled : Msg → List ℕ) (app : Application) (setup : Setup) (events : List Event) (received : List Received) (frames : Bool) →
+        feeds_in events (printed kind spelled (linked_report spelled frames app setup events received)) ≡ (linked_run spelled app setup events received).world.history.fed }
+    ensures releases { (kind : Body → ℕ) (spelled : Msg → List ℕ) (app : Application) (setup : Setup) (events : List Event) (received : List Received) (frames : Bool) →
+        releases_in (printed kind spelled (linked_report spelled frames app setup events received)) ≡ (linked_run spelled app setup events received).world.history.released }
+    ensures flows { (kind : Body → ℕ) (spelled : Msg → List ℕ) (app : Application) (setup : Setup) → setup.terms.mode ≡ Mode.Strict → (events : List Event) (received : List Received) (frames : Bool) →
+        flows_in (printed kind spelled (linked_report spelled frames app setup events received)) ≡ committed_flows app.cell_count (linked_run spelled app setup events received).world }
 {}
 
 /// An event has a line of its refusal where it is refused, with that cause. Every such line is that of a refused event, or of a pump that

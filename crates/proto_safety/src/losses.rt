@@ -14,7 +14,7 @@ ghost use Rattle.proto_safety.specs.LossLaws.{HistoryStands, SnapCells};
 /// of a round as a frame, and each Snap of the committed book have the cells after the items before the round's begin.
 pub fn snapshot_cells_stand()
     ensures { (app : Application) (setup : Setup) (bound : ℕ) → setup.terms.mode ≡ Mode.Snapshot bound →
-        TermsHold setup.terms.t_switch setup.terms.t_store setup.terms.ratio → 1 ≤ setup.terms.t_store → (events : List Event) →
+        TermsHold setup.terms.t_switch setup.terms.t_store setup.terms.ratio → (events : List Event) →
         SnapCells app (world_after app (opened app.cell_count setup) events) }
 {}
 
@@ -24,6 +24,6 @@ pub fn snapshot_cells_stand()
 /// packet of the flow was fed stands before it; a mark without a key is released once, with the output of one switch.
 pub fn snapshot_histories_stand()
     ensures { (app : Application) → IsApplication app → (setup : Setup) (bound : ℕ) → setup.terms.mode ≡ Mode.Snapshot bound →
-        TermsHold setup.terms.t_switch setup.terms.t_store setup.terms.ratio → 1 ≤ setup.terms.t_store → (events : List Event) →
+        TermsHold setup.terms.t_switch setup.terms.t_store setup.terms.ratio → (events : List Event) →
         HistoryStands app (world_after app (opened app.cell_count setup) events) }
 {}

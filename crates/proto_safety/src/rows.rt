@@ -20,11 +20,11 @@ ghost use Rattle.proto_model.specs.WorldStep.{world_after};
 ghost use Rattle.proto_safety.specs.StoreSent.{SaysBook};
 ghost use Rattle.proto_safety.specs.StoreTable.{Taken};
 ghost use Rattle.proto_safety.specs.SwitchSent.{SentNow};
-ghost use Rattle.proto_safety.specs.SwitchTable.{Acts};
+ghost use Rattle.proto_safety.specs.SwitchTable.{RowTaken};
 
 /// The row that an input meets at a switch is one of the table's, under what the table says there.
 pub fn switch_rows_stand_in_the_table()
-    ensures { (app : Application) (s : Switch) (now : ℕ) (input : Input) → Acts app s now input (switch_row app s now input) }
+    ensures { (app : Application) (s : Switch) (now : ℕ) (input : Input) → RowTaken app s now input (switch_row app s now input) }
 {}
 
 /// The row that a message meets at a replica is one of the table's, under what the table says there.

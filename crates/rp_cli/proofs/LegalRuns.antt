@@ -1,8 +1,13 @@
--- The run of an accepted schedule is legal.
-use Rattle.std.proofs.Common.{◌≡◌, ◌∙◌, sym, subst, Bool, List, ℕ, Option, Some, None, Result, Ok, Err, IfSome, IfOk, ap, refl}
+-- What is written of an accepted schedule's run is legal.
+use Rattle.std.proofs.Common.{◌≡◌, ◌∙◌, sym, subst, Bool, false, List, [], ◌++◌, ℕ, Option, Some, None, Result, Ok, Err, IfSome, IfOk, ap, refl, take}
+use Rattle.std.proofs.lemmas.List.{append-nil}
 use Rattle.rp_app.specs.Application.{counting}
 use Rattle.rp_app.specs.Counting.{counting_promised}
-use Rattle.proto_safety.proofs.HandedKept.{runs_are_legal}
+use Rattle.rp_base.specs.Outside.{Grows, GrowsByFront}
+use Rattle.rp_base.specs.declared.event.Event.{Event}
+use Rattle.rp_frame.specs.Spelling.{kind, spelling}
+use Rattle.rp_world.specs.Running.{shown}
+use Rattle.proto_model.specs.EndLines.{report}
 use Rattle.proto_safety.proofs.ReportLegal.{reports_are_legal}
 use Rattle.sched_lang.specs.declared.schedule.Schedule.{Schedule}
 use Rattle.sched_lang.specs.Reading.{Fault, schedule_of}
@@ -10,56 +15,79 @@ use Rattle.sched_lang.specs.Ready.{IsReady}
 use Rattle.sched_lang.proofs.Accepted.{accepted-ready}
 use Rattle.rp_cli.specs.declared.status.Status.{Status}
 use Rattle.rp_cli.specs.declared.status.Status.TheVariants as status
-use Rattle.rp_cli.specs.Reports.{IsLegalRun, setup_of, unlinked, mode_of}
-use Rattle.rp_cli.specs.Top.{Command, Counts, Runs, form_of, asked, asked_at, read_or_refused, schedule_in, Loads, IsOkWith, IsLegalAfter, IsNoSchedule}
+use Rattle.rp_cli.specs.Reports.{IsLegalText, counting_report, setup_of, unlinked, mode_of}
+use Rattle.rp_cli.specs.Top.{Command, Counts, Runs, form_of, asked, asked_at, read_or_refused, schedule_in, Loads, WritesLegal, BeginsLegal, IsOkWith, IsLegalAfter, IsNoSchedule}
 
-legal_run : (s : Schedule) → IsReady s → IsLegalRun s
-legal_run s ready =
+legal_text : (frames : Bool) (s : Schedule) → IsReady s → IsLegalText s.events (counting_report frames s)
+legal_text frames s ready =
     let setup = unlinked (setup_of s) in
     record {
-      history = runs_are_legal counting counting_promised setup (ap mode_of ready.header.strict) ready.header.hold ready.header.some_store s.events;
-      lines = λ frames. reports_are_legal counting counting_promised setup (ap mode_of ready.header.strict) ready.header.hold ready.header.some_store s.events frames;
-      text = λ frames. refl;
+      lines = shown (report frames counting (unlinked (setup_of s)) s.events);
+      says = refl;
+      legal = reports_are_legal kind spelling counting counting_promised setup (ap mode_of ready.header.strict) ready.header.hold s.events frames;
     }
 
-legal_read : (read : Result Schedule Fault) → IfOk read IsReady → IfOk (read_or_refused read) IsLegalRun
-legal_read (Ok s) ready = legal_run s ready
-legal_read (Err fault) ready = tt
+-- ---- where a schedule was loaded
 
-legal_in : (content : Option (List ℕ)) → IfOk (schedule_in content) IsLegalRun
-legal_in None = tt
-legal_in (Some text) = legal_read (schedule_of text) (accepted-ready text)
+of_loaded : (P : Schedule → Type 0) (r : Result Schedule Status) (s : Schedule) → r ≡ Ok s → P s → IsOkWith P r
+of_loaded P r s e h = subst (IsOkWith P) (sym e) h
 
--- whatever schedule a command asks for, its run is legal
-legal_at : (command : Option Command) (contents : List ℕ → Option (List ℕ)) → IfOk (asked_at command contents) IsLegalRun
-legal_at None contents = tt
-legal_at (Some (Counts frames schedule)) contents = legal_in (contents schedule)
-legal_at (Some (Runs program)) contents = tt
+loaded_is : (words : List (List ℕ)) (frames : Bool) (name : List ℕ) (s : Schedule) (contents : List ℕ → Option (List ℕ)) → form_of words ≡ Some (Counts frames name) → Loads (Ok s) (schedule_in (contents name)) → asked words contents ≡ Ok s
+loaded_is words frames name s contents form h = ap (λ command. asked_at command contents) form ∙ h
 
-legal_with : (r : Result Schedule Status) (s : Schedule) → r ≡ Ok s → IfOk r IsLegalRun → IsOkWith IsLegalRun r
-legal_with r s e h = let P : Result Schedule Status → Type 0 = λ r. IfOk r IsLegalRun → IsOkWith IsLegalRun r in subst P (sym e) (λ legal. legal) h
+-- all of it was written
+pub legal_whole : (told : Option (List ℕ → Option (List ℕ))) (words : List (List ℕ)) (frames : Bool) (name : List ℕ) (s : Schedule) (old new : Option (List ℕ)) → form_of words ≡ Some (Counts frames name) →
+    IfSome told (λ contents. Loads (Ok s) (schedule_in (contents name))) → IsReady s → Grows old new (counting_report frames s) →
+    IfSome told (λ contents. IsOkWith (λ (s : Schedule). WritesLegal s.events old new) (asked words contents))
+legal_whole None words frames name s old new form h ready grows = tt
+legal_whole (Some contents) words frames name s old new form h ready grows =
+    of_loaded (λ (s : Schedule). WritesLegal s.events old new) (asked words contents) s (loaded_is words frames name s contents form h) (counting_report frames s, (legal_text frames s ready, grows))
 
--- a run that began is legal
-pub legal_begun : (told : Option (List ℕ → Option (List ℕ))) (words : List (List ℕ)) (frames : Bool) (name : List ℕ) (s : Schedule) → form_of words ≡ Some (Counts frames name) → IfSome told (λ contents. Loads (Ok s) (schedule_in (contents name))) →
-    IfSome told (λ contents. IsOkWith IsLegalRun (asked words contents))
-legal_begun None words frames name s form h = tt
-legal_begun (Some contents) words frames name s form h =
-    legal_with (asked words contents) s (ap (λ command. asked_at command contents) form ∙ h) (legal_at (form_of words) contents)
+-- a front of it was
+pub legal_front : (told : Option (List ℕ → Option (List ℕ))) (words : List (List ℕ)) (frames : Bool) (name : List ℕ) (s : Schedule) (old new : Option (List ℕ)) → form_of words ≡ Some (Counts frames name) →
+    IfSome told (λ contents. Loads (Ok s) (schedule_in (contents name))) → IsReady s → GrowsByFront old new (counting_report frames s) →
+    IfSome told (λ contents. IsOkWith (λ (s : Schedule). BeginsLegal s.events old new) (asked words contents))
+legal_front None words frames name s old new form h ready grows = tt
+legal_front (Some contents) words frames name s old new form h ready grows =
+    of_loaded (λ (s : Schedule). BeginsLegal s.events old new) (asked words contents) s (loaded_is words frames name s contents form h) (counting_report frames s, (legal_text frames s ready, grows))
 
--- whatever was written before memory ran out
-pub legal_short : (told : Option (List ℕ → Option (List ℕ))) (words : List (List ℕ)) → IfSome told (λ contents. IfOk (asked words contents) IsLegalRun)
-legal_short None words = tt
-legal_short (Some contents) words = legal_at (form_of words) contents
+if_ok : (P : Schedule → Type 0) (r : Result Schedule Status) → IsOkWith P r → IfOk r P
+if_ok P (Ok s) h = h
+if_ok P (Err answer) h = tt
 
-instead : (answer : Status) (words : List (List ℕ)) (contents : List ℕ → Option (List ℕ)) → IsNoSchedule answer → IsLegalAfter answer (asked words contents)
-instead status.Done words contents h = absurd h
-instead status.Usage words contents h = tt
-instead (status.ScheduleRefused line why) words contents h = tt
-instead status.InputFault words contents h = tt
-instead status.OutputFault words contents h = absurd h
-instead status.NoMemory words contents h = legal_at (form_of words) contents
+pub legal_short : (told : Option (List ℕ → Option (List ℕ))) (words : List (List ℕ)) (old new : Option (List ℕ)) → IfSome told (λ contents. IsOkWith (λ (s : Schedule). BeginsLegal s.events old new) (asked words contents)) →
+    IfSome told (λ contents. IfOk (asked words contents) (λ (s : Schedule). BeginsLegal s.events old new))
+legal_short None words old new h = tt
+legal_short (Some contents) words old new h = if_ok (λ (s : Schedule). BeginsLegal s.events old new) (asked words contents) h
+
+-- ---- where none was, nothing was written
+
+nothing_more : (told : Option (List ℕ)) (text : List ℕ) → GrowsByFront told told text
+nothing_more None text = (0, tt)
+nothing_more (Some xs) text = (0, sym (append-nil xs))
+
+begins_read : (old : Option (List ℕ)) (read : Result Schedule Fault) → IfOk read IsReady → IfOk (read_or_refused read) (λ (s : Schedule). BeginsLegal s.events old old)
+begins_read old (Ok s) ready = (counting_report false s, (legal_text false s ready, nothing_more old (counting_report false s)))
+begins_read old (Err fault) ready = tt
+
+begins_in : (old : Option (List ℕ)) (content : Option (List ℕ)) → IfOk (schedule_in content) (λ (s : Schedule). BeginsLegal s.events old old)
+begins_in old None = tt
+begins_in old (Some text) = begins_read old (schedule_of text) (accepted-ready text)
+
+begins_at : (old : Option (List ℕ)) (command : Option Command) (contents : List ℕ → Option (List ℕ)) → IfOk (asked_at command contents) (λ (s : Schedule). BeginsLegal s.events old old)
+begins_at old None contents = tt
+begins_at old (Some (Counts frames schedule)) contents = begins_in old (contents schedule)
+begins_at old (Some (Runs program)) contents = tt
+
+instead : (answer : Status) (words : List (List ℕ)) (contents : List ℕ → Option (List ℕ)) (old : Option (List ℕ)) → IsNoSchedule answer → IsLegalAfter answer (asked words contents) old old
+instead status.Done words contents old h = absurd h
+instead status.Usage words contents old h = tt
+instead (status.ScheduleRefused line why) words contents old h = tt
+instead status.InputFault words contents old h = tt
+instead status.OutputFault words contents old h = absurd h
+instead status.NoMemory words contents old h = begins_at old (form_of words) contents
 
 -- an answer in place of a schedule
-pub legal_instead : (told : Option (List ℕ → Option (List ℕ))) (words : List (List ℕ)) (answer : Status) → IsNoSchedule answer → IfSome told (λ contents. IsLegalAfter answer (asked words contents))
-legal_instead None words answer h = tt
-legal_instead (Some contents) words answer h = instead answer words contents h
+pub legal_instead : (told : Option (List ℕ → Option (List ℕ))) (words : List (List ℕ)) (answer : Status) (old : Option (List ℕ)) → IsNoSchedule answer → IfSome told (λ contents. IsLegalAfter answer (asked words contents) old old)
+legal_instead None words answer old h = tt
+legal_instead (Some contents) words answer old h = instead answer words contents old h

@@ -4,11 +4,8 @@ use Rattle.rp_base.specs.declared.event.Event.{Event}
 use Rattle.rp_base.specs.declared.line.Line.{Line}
 use Rattle.rp_app.specs.Application.{Application, counting}
 use Rattle.proto_data.specs.declared.terms.Mode.{Mode}
-use Rattle.proto_model.specs.Legal.{IsLegal}
-use Rattle.proto_model.specs.Lines.{Line as WorldLine}
 use Rattle.proto_safety.specs.LegalLines.{LegalLines}
-use Rattle.proto_model.specs.World.{Setup as WorldSetup, opened}
-use Rattle.proto_model.specs.WorldStep.{world_after}
+use Rattle.proto_model.specs.World.{Setup as WorldSetup}
 use Rattle.proto_model.specs.EndLines.{report}
 use Rattle.rp_world.specs.declared.world.Setup.{Setup}
 use Rattle.rp_world.specs.Running.{shown}
@@ -51,14 +48,9 @@ running_text false l = line_text l
 abbrev pub running_texts : Bool → List Line → List ℕ
 running_texts frames ls = flat_map (running_text frames) ls
 
--- the lines of that report
-abbrev pub counting_lines : Bool → Schedule → List WorldLine
-counting_lines frames s = report frames counting (unlinked (setup_of s)) s.events
-
--- What the run of a schedule shows of each flow is what one switch that never fails gives along the flow's serial list: in its
--- history, and in the lines of its report, over the schedule's events alone, with the frames that it sends or without them.
-pub record IsLegalRun (s : Schedule) : Type 0 where
-  pub history : IsLegal counting (world_after counting (opened counting.cell_count (unlinked (setup_of s))) s.events)
-  pub lines : (frames : Bool) → LegalLines counting s.events (counting_lines frames s)
-  -- these are the lines whose text is written
-  pub text : (frames : Bool) → counting_report frames s ≡ lines_text (shown (counting_lines frames s))
+-- A text of lines that are legal over these events: what it shows of each flow is what one switch that never fails gives along the
+-- flow's serial list. The packets that are fed are those of the events that no line refuses.
+pub record IsLegalText (events : List Event) (text : List ℕ) : Type 0 where
+  pub lines : List Line
+  pub says : text ≡ lines_text lines
+  pub legal : LegalLines counting events lines

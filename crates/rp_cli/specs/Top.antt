@@ -2,11 +2,12 @@
 use Rattle.std.specs.Prelude.{◌≡◌, ℕ, Bool, true, false, List, [], ◌∷◌, if◌then◌else◌, Option, Some, None, option_map, Result, Ok, Err, IfOk, codes}
 use Rattle.std.specs.Str.{bytes_eq}
 use Rattle.rp_base.specs.Outside.{Grows, GrowsByFront}
+use Rattle.rp_base.specs.declared.event.Event.{Event}
 use Rattle.sched_lang.specs.declared.schedule.Schedule.{Schedule}
 use Rattle.sched_lang.specs.Reading.{Fault, schedule_of}
 use Rattle.rp_cli.specs.declared.status.Status.{Status}
 use Rattle.rp_cli.specs.declared.status.Status.TheVariants as status
-use Rattle.rp_cli.specs.Reports.{counting_report, IsLegalRun}
+use Rattle.rp_cli.specs.Reports.{counting_report, IsLegalText}
 
 -- ---- the command
 
@@ -126,14 +127,23 @@ abbrev pub IsOkWith : (Schedule → Type 0) → Result Schedule Status → Type 
 IsOkWith P (Ok s) = P s
 IsOkWith P (Err answer) = ⊥
 
--- After these answers what was written is the report, or a front of it, of a legal run. Memory may run out before a run begins.
-abbrev pub IsLegalAfter : Status → Result Schedule Status → Type 0
-IsLegalAfter status.Done asked = IsOkWith IsLegalRun asked
-IsLegalAfter status.Usage asked = Unit {0}
-IsLegalAfter (status.ScheduleRefused line why) asked = Unit {0}
-IsLegalAfter status.InputFault asked = Unit {0}
-IsLegalAfter status.OutputFault asked = IsOkWith IsLegalRun asked
-IsLegalAfter status.NoMemory asked = IfOk asked IsLegalRun
+-- what the sink tells grew by a text that is legal over these events
+abbrev pub WritesLegal : List Event → Option (List ℕ) → Option (List ℕ) → Type 0
+WritesLegal events old new = (text : List ℕ) × (IsLegalText events text × Grows old new text)
+
+-- it grew by a front of such a text
+abbrev pub BeginsLegal : List Event → Option (List ℕ) → Option (List ℕ) → Type 0
+BeginsLegal events old new = (text : List ℕ) × (IsLegalText events text × GrowsByFront old new text)
+
+-- After these answers what was written is legal over the events of the schedule that was loaded, or a front of what is. Memory may
+-- run out before a schedule is loaded.
+abbrev pub IsLegalAfter : Status → Result Schedule Status → Option (List ℕ) → Option (List ℕ) → Type 0
+IsLegalAfter status.Done asked old new = IsOkWith (λ (s : Schedule). WritesLegal s.events old new) asked
+IsLegalAfter status.Usage asked old new = Unit {0}
+IsLegalAfter (status.ScheduleRefused line why) asked old new = Unit {0}
+IsLegalAfter status.InputFault asked old new = Unit {0}
+IsLegalAfter status.OutputFault asked old new = IsOkWith (λ (s : Schedule). BeginsLegal s.events old new) asked
+IsLegalAfter status.NoMemory asked old new = IfOk asked (λ (s : Schedule). BeginsLegal s.events old new)
 
 -- the answers in place of a schedule
 abbrev pub IsNoSchedule : Status → Type 0

@@ -1,5 +1,5 @@
 //! The top call: what the program does over any inputs, sink, link and clock.
-ghost use Rattle.std.specs.Prelude.{◌≡◌, [], None, Some, Err, IfSome, IfOk, IfErr, IsOk, IsErrOf, drop, option_map};
+ghost use Rattle.std.specs.Prelude.{◌≡◌, ◌≤◌, [], None, Some, Err, IfSome, IfOk, IfErr, IsOk, IsErrOf, drop, option_map};
 ghost use Rattle.rp_base.specs.Outside.{Grows, Rose};
 ghost use Rattle.rp_world.specs.Running.{IsSetup};
 ghost use Rattle.sched_lang.specs.Reading.{schedule_of};
@@ -63,6 +63,8 @@ fn command_of(words: &Words) -> Option<Command<'_>>
 fn unbuilt<I: Inputs>(alloc: Global, name: &[u8], inputs: &mut I) -> Status
     ensures told { IfSome (I.contents inputs.old) (λ contents. Loads (Err result) (Err (program_in (contents name.now)))) }
     ensures ends { IsNoProgram result }
+    ensures contents { I.contents inputs.new ≡ I.contents inputs.old }
+    ensures count { I.faults inputs.old ≤ I.faults inputs.new }
     ensures input { result ≡ Status.InputFault → Rose (I.faults inputs.old) (I.faults inputs.new) }
 {
     let mut text = Bytes::new(alloc);
@@ -78,6 +80,8 @@ fn loaded<I: Inputs>(alloc: Global, name: &[u8], inputs: &mut I) -> Result<Sched
     ensures told { IfSome (I.contents inputs.old) (λ contents. Loads result (schedule_in (contents name.now))) }
     ensures ready { IfOk result IsReady }
     ensures ends { IfErr result IsNoSchedule }
+    ensures contents { I.contents inputs.new ≡ I.contents inputs.old }
+    ensures count { I.faults inputs.old ≤ I.faults inputs.new }
     ensures input { IsErrOf result Status.InputFault → Rose (I.faults inputs.old) (I.faults inputs.new) }
 {
     let mut text = Bytes::new(alloc);
@@ -137,15 +141,19 @@ pub fn rp_main<I: Inputs, K: Sink, L: Link, C: Clock>(
     // where the inputs tell their contents
     ensures told { IfSome (I.contents inputs.old) (λ contents.
         Answers result (outcome words.now contents) (K.written out.old) (K.written out.new)) }
-    // what was written, whole or in part, is the report of a run that one switch could have shown
+    // what was written, whole or in part, is what one switch that never fails could have shown of the schedule's events
     ensures legal { IfSome (I.contents inputs.old) (λ contents.
-        IsLegalAfter result (asked words.now contents)) }
+        IsLegalAfter result (asked words.now contents) (K.written out.old) (K.written out.new)) }
     ensures complete { IfSome (I.contents inputs.old) (λ contents. IsOk (outcome words.now contents) →
         ¬ Rose (I.faults inputs.old) (I.faults inputs.new) → ¬ Rose (K.faults out.old) (K.faults out.new) → IsDoneOrNoMemory result) }
 
     ensures nothing { IsBeforeRun result → Grows (K.written out.old) (K.written out.new) [] }
     ensures input { result ≡ Status.InputFault → Rose (I.faults inputs.old) (I.faults inputs.new) }
     ensures output { result ≡ Status.OutputFault → Rose (K.faults out.old) (K.faults out.new) }
+    ensures contents { I.contents inputs.new ≡ I.contents inputs.old }
+    ensures inputs_count { I.faults inputs.old ≤ I.faults inputs.new }
+    ensures out_count { K.faults out.old ≤ K.faults out.new }
+    ensures link_count { L.faults link.old ≤ L.faults link.new }
     ensures link { link.new ≡ link.old }
     ensures clock { clock.new ≡ clock.old }
 {

@@ -10,12 +10,12 @@ use Rattle.rp_app.specs.Application.{Application}
 use Rattle.proto_data.specs.declared.message.Body.{Body}
 use Rattle.proto_data.specs.declared.message.Carried.{Carried}
 use Rattle.proto_data.specs.declared.message.Input.{Input}
-use Rattle.proto_model.specs.Carrying.{packet_of}
+use Rattle.proto_data.specs.Carrying.{packet_of}
 use Rattle.proto_model.specs.Ring.{remembers}
 use Rattle.proto_model.specs.Slot.{Lease, Slot, Idle, Asking, Held, Lapsed, lapsed_lease, extended, is_young, fresh_slot}
 use Rattle.proto_model.specs.SwitchState.{Switch, SwitchStep, Copy, lapsed, slot_at, has_copies, head_node, with_slot}
 use Rattle.proto_model.specs.SwitchRow.{SwitchRow, Keyless, NoRoom, NewAsk, AskAgain, Drops, Direct, Mirrored, Granted, Late, Acked, RoundDone, Denied, Busied, Adopts, Resends, Stale, processed, leased_row, keyed_row, packet_row, carried_row, granted, without_asked, asked_mark, grant_row, has_epoch, ack_row, busy_row, at_slot, message_row, switch_row, is_clean}
-use Rattle.proto_model.specs.SwitchActs.{perform, acked_lease, idled}
+use Rattle.proto_model.specs.SwitchOutcomes.{perform, acked_lease, idled}
 use Rattle.proto_model.specs.SwitchRows.{switch_step}
 use Rattle.std.proofs.lemmas.List.Elements.{All-from_recursion}
 use Rattle.rp_world.specs.Steady.{IsSteadyLease, IsSteadySlot, IsSteady}

@@ -14,7 +14,7 @@ use Rattle.proto_model.specs.Slot.{Slot, Lease, Idle, Asking, Held, Lapsed, is_y
 use Rattle.proto_model.specs.Ring.{remembers}
 use Rattle.proto_model.specs.SwitchState.{Switch, SwitchDid, SwitchStep, with_slot, slot_at, lapsed, only_released}
 use Rattle.proto_model.specs.SwitchRow.{SwitchRow, NewAsk, NoRoom, Late, Granted, Stale, Denied, Busied, Acked, Adopts, ack_row, has_epoch, asked_mark, keyed_row, at_slot, busy_row, carried_row, grant_row, granted, leased_row, message_row, packet_row}
-use Rattle.proto_model.specs.SwitchActs.{perform, late_did}
+use Rattle.proto_model.specs.SwitchOutcomes.{perform, late_did}
 use Rattle.proto_model.specs.SwitchRows.{switch_step}
 use Rattle.rp_world.proofs.SwitchOver.{granted_over, idled_over, leased_over, put_back}
 

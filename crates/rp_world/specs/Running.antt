@@ -1,12 +1,12 @@
 -- A world as its callers see it, and what its calls do.
-use Rattle.std.specs.Prelude.{ℕ, ◌≤◌, ◌≡◌, Bool, false, List, length, map}
+use Rattle.std.specs.Prelude.{ℕ, ◌≤◌, ◌≡◌, Bool, false, List, length}
 use Rattle.rp_base.specs.declared.event.Event.{Event}
 use Rattle.rp_base.specs.declared.line.Line.{Line as Shown}
 use Rattle.rp_base.specs.Clocks.{TermsHold}
 use Rattle.rp_app.specs.Application.{Application}
 use Rattle.proto_data.specs.declared.terms.Terms.{Terms}
 use Rattle.proto_data.specs.declared.terms.Mode.{Mode}
-use Rattle.proto_model.specs.Lines.{Line, Release, Dropped, LostLine, Refused, Stranger, Send, Serial, Epoch, CellsLine, End}
+use Rattle.proto_model.specs.Lines.{Line, printed_line, printed}
 use Rattle.proto_model.specs.World.{World, opened}
 use Rattle.proto_model.specs.WorldStep.{world_step}
 use Rattle.rp_frame.specs.Spelling.{kind, spelling}
@@ -40,21 +40,12 @@ IsEvent (Event.Feed port bytes) = length bytes ≤ 1500
 IsEvent Event.Next = Unit {0}
 IsEvent _ = ⊥
 
--- a line as the report shows it; that of a sent frame has the byte of its kind and the bytes that spell its message
+-- a line as the report shows it, each frame by its one spelling
 abbrev pub line_of : Line → Shown
-line_of (Release event mark port bytes) = Shown.Release event mark port bytes
-line_of (Dropped event mark cause) = Shown.Drop event mark cause
-line_of (LostLine event cause) = Shown.Lost event cause
-line_of (Refused event cause) = Shown.Refused event cause
-line_of (Stranger event node) = Shown.Stranger event node
-line_of (Send event frame from to named msg) = Shown.Send event frame from to (kind msg.body) (spelling msg)
-line_of (Serial key marks) = Shown.Serial key marks
-line_of (Epoch key epoch kept marks) = Shown.Epoch key epoch kept marks
-line_of (CellsLine key cells) = Shown.Cells key cells
-line_of End = Shown.End
+line_of l = printed_line kind spelling l
 
 abbrev pub shown : List Line → List Shown
-shown lines = map line_of lines
+shown lines = printed kind spelling lines
 
 -- the world before its first event, of an application with so many cells
 abbrev pub opened_as : ℕ → Setup → World

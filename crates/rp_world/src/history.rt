@@ -4,39 +4,9 @@ ghost use Rattle.proto_model.specs.Effects.{added, made_output, put_output};
 
 use crate::switch_did::Item;
 use proto_model::{Body, Msg};
-use rp_base::{NoMemory, Output, Packet};
+use rp_base::{Fed, NoMemory, Output, Packet, Released};
 use std::alloc::Global;
 use std::marker::Model;
-
-/// A packet that was fed.
-#[derive(Debug, Drop)]
-struct Fed {
-    event: u64,
-    packet: Packet,
-}
-
-impl Model for Fed {
-    ghost use Rattle.proto_model.specs.World.{Fed as FedValue};
-
-    ghost Value = { FedValue };
-
-    ghost view = { λ f. record { event = f.event; packet = f.packet } };
-}
-
-/// An output that left.
-#[derive(Debug, Drop)]
-struct Released {
-    event: u64,
-    output: Output,
-}
-
-impl Model for Released {
-    ghost use Rattle.proto_model.specs.World.{Released as ReleasedValue};
-
-    ghost Value = { ReleasedValue };
-
-    ghost view = { λ r. record { event = r.event; output = r.output } };
-}
 
 /// A packet that was processed, with its output.
 #[derive(Debug, Drop)]

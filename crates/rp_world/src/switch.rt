@@ -37,7 +37,7 @@ impl Switch {
     ghost use Rattle.proto_data.specs.declared.message.Input.{Input as InputValue};
     ghost use Rattle.proto_model.specs.SwitchState.{open_switch};
     ghost use Rattle.proto_model.specs.SwitchRow.{Adopts, Stale};
-    ghost use Rattle.proto_model.specs.SwitchActs.{perform};
+    ghost use Rattle.proto_model.specs.SwitchOutcomes.{perform};
     ghost use Rattle.proto_model.specs.SwitchRows.{switch_step};
     ghost use Rattle.rp_world.specs.Steady.{IsSteady};
 

@@ -1,7 +1,7 @@
 //! What a switch does in each row of its table.
 ghost use Rattle.std.specs.Prelude.{◌≡◌, ◌≤◌, ◌<◌, ◌^◌, [], All, IfOk, OnOk, length, option_map};
 ghost use Rattle.rp_app.specs.Application.{cells_named};
-ghost use Rattle.proto_model.specs.Carrying.{carried_output, carried_packet, packet_of};
+ghost use Rattle.proto_data.specs.Carrying.{carried_output, carried_packet, packet_of};
 ghost use Rattle.proto_model.specs.Slot.{Idle};
 ghost use Rattle.proto_model.specs.SwitchRow.{is_clean};
 ghost use Rattle.proto_model.specs.SwitchState.{only_dropped, only_lost};
@@ -72,7 +72,7 @@ impl Switch {
     ghost use Rattle.std.specs.Prelude.{Option, ◌∷◌, true, false};
     ghost use Rattle.proto_data.specs.declared.terms.Mode.{Mode as ModeValue};
     ghost use Rattle.proto_model.specs.SwitchState.{has_copies, is_of, to_head, with_slot};
-    ghost use Rattle.proto_model.specs.SwitchActs.{after_acked, after_ask_again, after_direct, after_mirrored, after_new_ask, idled, perform};
+    ghost use Rattle.proto_model.specs.SwitchOutcomes.{after_acked, after_ask_again, after_direct, after_mirrored, after_new_ask, idled, perform};
     ghost use Rattle.proto_model.specs.SwitchRow.{process_row};
 
     // A message to the head of the chain.

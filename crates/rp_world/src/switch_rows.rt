@@ -1,7 +1,7 @@
 //! Which row of its table a switch takes.
 ghost use Rattle.std.specs.Prelude.{◌≡◌, ◌≤◌, ◌+◌, ◌^◌, All, Option, Some, None, IfOk, OnOk, length, true, if◌then◌else◌, ◌&&◌, ◌==◌, nat_lt};
 ghost use Rattle.rp_app.specs.Application.{zeros};
-ghost use Rattle.proto_model.specs.Carrying.{packet_of};
+ghost use Rattle.proto_data.specs.Carrying.{packet_of};
 ghost use Rattle.proto_model.specs.Ring.{remembers};
 ghost use Rattle.proto_model.specs.Slot.{fresh_slot};
 ghost use Rattle.proto_model.specs.SwitchRow.{Acked, Denied, Granted, Late, NewAsk, NoRoom, Stale, asked_mark, carried_row, granted, busy_row, grant_row, has_epoch, leased_row, process_row, without_asked};
@@ -30,7 +30,7 @@ fn is_epoch(lease: LeaseState, epoch: u64) -> bool
 impl Switch {
     ghost use Rattle.proto_data.specs.declared.terms.Mode.{Mode as ModeValue};
     ghost use Rattle.proto_model.specs.SwitchState.{only_dropped, only_lost, only_released, slot_at, with_slot};
-    ghost use Rattle.proto_model.specs.SwitchActs.{after_new_ask, perform};
+    ghost use Rattle.proto_model.specs.SwitchOutcomes.{after_new_ask, perform};
     ghost use Rattle.rp_base.specs.declared.event.Lost.{Lost as LostValue};
 
     // A message is lost as stale, and the slot that was taken out stays as it is.

@@ -4,7 +4,7 @@ ghost use Rattle.rp_base.specs.declared.node.Output.{Output as OutputValue};
 ghost use Rattle.proto_model.specs.Slot.{Slot as SlotValue, Asking, Idle, emptied, fresh_slot, lapsed_slot};
 ghost use Rattle.proto_model.specs.Ring.{remember, remembers};
 ghost use Rattle.proto_model.specs.SwitchRow.{granted, without_asked};
-ghost use Rattle.proto_model.specs.SwitchActs.{acked_lease, forget_load, held_output, remember_output};
+ghost use Rattle.proto_model.specs.SwitchOutcomes.{acked_lease, forget_load, held_output, remember_output};
 ghost use Rattle.rp_app.specs.Application.{cells_named, written};
 ghost use Rattle.rp_world.specs.Lease.{lease_of};
 ghost use Rattle.rp_world.specs.SlotEnds.{EndsFrom};

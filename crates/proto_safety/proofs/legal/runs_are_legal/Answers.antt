@@ -1,5 +1,5 @@
-use Rattle.proto_safety.proofs.HandedKept as kept
+use Rattle.proto_safety.proofs.RunsAreLegal as legal
 use Rattle.proto_safety.proofs.legal.runs_are_legal.Goals as goal
 
 pub returns : goal.returns
-returns c = kept.runs_are_legal
+returns c = legal.runs_are_legal

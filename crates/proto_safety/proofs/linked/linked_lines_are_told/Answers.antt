@@ -2,4 +2,9 @@ use Rattle.proto_safety.proofs.LinkedTold as told
 use Rattle.proto_safety.proofs.linked.linked_lines_are_told.Goals as goal
 
 pub returns : goal.returns
-returns c = record { feeds = told.linked_feeds; releases = told.linked_releases; flows = told.linked_flows }
+returns c =
+    record {
+      feeds = λ kind spelled app. told.linked_feeds spelled app kind;
+      releases = λ kind spelled app. told.linked_releases spelled app kind;
+      flows = λ kind spelled app. told.linked_flows spelled app kind;
+    }

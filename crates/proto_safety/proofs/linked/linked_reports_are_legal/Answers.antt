@@ -2,4 +2,4 @@ use Rattle.proto_safety.proofs.LinkedTold as told
 use Rattle.proto_safety.proofs.linked.linked_reports_are_legal.Goals as goal
 
 pub returns : goal.returns
-returns c = told.linked_reports_are_legal
+returns c = λ kind spelled app. told.linked_reports_are_legal spelled app kind

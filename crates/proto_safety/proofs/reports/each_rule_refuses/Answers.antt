@@ -6,10 +6,11 @@ use Rattle.proto_model.specs.Legal.{IsOutputIn, StandsIn, ReleasedBefore, folded
 use Rattle.std.specs.Prelude.{slice_index}
 use Rattle.rp_base.specs.declared.node.Output.{Output}
 use Rattle.rp_base.specs.declared.node.Packet.{Packet}
-use Rattle.proto_model.specs.World.{Fed as FedValue, Released}
-use Rattle.proto_model.specs.Lines.{Line, Release}
+use Rattle.rp_base.specs.declared.legality.Fed.{Fed as FedValue}
+use Rattle.rp_base.specs.declared.legality.Released.{Released}
+use Rattle.rp_base.specs.declared.line.Line.{Line}
 use Rattle.proto_safety.specs.Books.{In}
-use Rattle.proto_safety.proofs.LegalNow.{among_in}
+use Rattle.proto_safety.proofs.Lists.{among_in}
 use Rattle.proto_safety.specs.LegalLines.{CellsAreFolded, IsAuditOf, KeyedAreListed, KeylessAreFed, ListsAreFed, ListsAreInOrder, feeds_in, flows_in, releases_in, lists_fail, keyed_fail, order_fails, cells_fail, keyless_fail}
 use Rattle.proto_safety.specs.RuleRows.{count_of, ends_with, early_lines, fed_first, fed_keyless, fed_second, keyless_lines, refused_lines, right_lines, wrong_cells, wrong_output}
 use Rattle.proto_safety.proofs.RulesOneByOne.{rules_together}
@@ -43,10 +44,10 @@ abbrev release_one : ℕ → Released
 release_one n = record { event = 5; output = record { mark = 1; port = 7; bytes = count_of n } }
 
 -- one flow's list of one mark
-one_fed : (n k : ℕ) → Fed fed_first (Release 5 1 7 (count_of n) ∷ ends_with 1 k)
+one_fed : (n k : ℕ) → Fed fed_first (Line.Release 5 1 7 (count_of n) ∷ ends_with 1 k)
 one_fed n k = record { fed_with_key = ((refl, tt), tt); each_once = (tt, tt) }
 
-one_keyed : (k : ℕ) → Keyed fed_first (Release 5 1 7 (count_of 1) ∷ ends_with 1 k)
+one_keyed : (k : ℕ) → Keyed fed_first (Line.Release 5 1 7 (count_of 1) ∷ ends_with 1 k)
 one_keyed k =
     record {
       from_list = (
@@ -54,15 +55,15 @@ one_keyed k =
             let same : 97 ∷ [] ≡ key = cc in
             subst
             (λ (x : Key).
-            StandsIn (marks_of ((97 ∷ [], 1 ∷ [], k ∷ []) ∷ []) x) 1
-            × IsOutputIn counting (packet_one ∷ []) (folded counting (packet_one ∷ []) (marks_before (marks_of ((97 ∷ [], 1 ∷ [], k ∷ []) ∷ []) x) 1)) (record { mark = 1; port = 7; bytes = count_of 1 }))
+            StandsIn (marks_of (record { key = 97 ∷ []; marks = 1 ∷ []; cells = k ∷ [] } ∷ []) x) 1
+            × IsOutputIn counting (packet_one ∷ []) (folded counting (packet_one ∷ []) (marks_before (marks_of (record { key = 97 ∷ []; marks = 1 ∷ []; cells = k ∷ [] } ∷ []) x) 1)) (record { mark = 1; port = 7; bytes = count_of 1 }))
             same (([], ([], refl)), (packet_one.packet, refl, refl)),
         tt,
       );
       once = (tt, tt);
     }
 
-one_order : (k : ℕ) → Order fed_first (Release 5 1 7 (count_of 1) ∷ ends_with 1 k)
+one_order : (k : ℕ) → Order fed_first (Line.Release 5 1 7 (count_of 1) ∷ ends_with 1 k)
 one_order k = record { in_order = ((tt, tt), tt); none_early = ((λ x. not_early x, tt), tt) }
   where
     some_same : (a b : FedValue) → Some a ≡ Some b → a ≡ b
@@ -76,12 +77,12 @@ one_order k = record { in_order = ((tt, tt), tt); none_early = ((λ x. not_early
         let five : 5 ≡ x.0.event = ap (λ (y : Released). y.event) r in
         let one : 1 ≡ x.1.event = ap (λ (y : FedValue). y.event) f in absurd (omega arith)
 
-one_keyless : (k : ℕ) → Keyless fed_first (Release 5 1 7 (count_of 1) ∷ ends_with 1 k)
+one_keyless : (k : ℕ) → Keyless fed_first (Line.Release 5 1 7 (count_of 1) ∷ ends_with 1 k)
 one_keyless k = record { from_feed = (λ none. let no : Some (97 ∷ []) ≡ None = none in absurd cc, tt); once = (tt, tt) }
 
 right : IsAuditOf counting fed_first right_lines None
 right =
-    rules_together counting (packet_one ∷ []) (release_one 1 ∷ []) ((97 ∷ [], 1 ∷ [], 1 ∷ []) ∷ [])
+    rules_together counting (packet_one ∷ []) (release_one 1 ∷ []) (record { key = 97 ∷ []; marks = 1 ∷ []; cells = 1 ∷ [] } ∷ [])
     (record { lists = one_fed 1 1; keyed = one_keyed 1; order = one_order 1; cells = (refl, tt); keyless = one_keyless 1 })
 
 not_fed : ¬ Fed fed_first refused_lines
@@ -117,8 +118,8 @@ early_keyed =
             let same : 97 ∷ [] ≡ key = cc in
             subst
             (λ (x : Key).
-            StandsIn (marks_of ((97 ∷ [], 2 ∷ [], 1 ∷ []) ∷ []) x) 2
-            × IsOutputIn counting (packet_two ∷ []) (folded counting (packet_two ∷ []) (marks_before (marks_of ((97 ∷ [], 2 ∷ [], 1 ∷ []) ∷ []) x) 2)) (record { mark = 2; port = 7; bytes = count_of 1 }))
+            StandsIn (marks_of (record { key = 97 ∷ []; marks = 2 ∷ []; cells = 1 ∷ [] } ∷ []) x) 2
+            × IsOutputIn counting (packet_two ∷ []) (folded counting (packet_two ∷ []) (marks_before (marks_of (record { key = 97 ∷ []; marks = 2 ∷ []; cells = 1 ∷ [] } ∷ []) x) 2)) (record { mark = 2; port = 7; bytes = count_of 1 }))
             same (([], ([], refl)), (packet_two.packet, refl, refl)),
         tt,
       );

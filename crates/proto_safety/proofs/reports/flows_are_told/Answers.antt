@@ -2,4 +2,4 @@ use Rattle.proto_safety.proofs.ReportLegal as legal
 use Rattle.proto_safety.proofs.reports.flows_are_told.Goals as goal
 
 pub returns : goal.returns
-returns c = record { ends = legal.ends_are_closings; report = legal.report_flows }
+returns c = record { ends = legal.end_flows; report = legal.report_flows }

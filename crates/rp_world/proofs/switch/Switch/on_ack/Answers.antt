@@ -3,7 +3,7 @@ use Rattle.std.specs.Prelude.{◌==◌, if◌then◌else◌, IfOk}
 use Rattle.std.proofs.lemmas.Bool.{and_from}
 use Rattle.proto_model.specs.SwitchState.{SwitchStep, with_slot}
 use Rattle.proto_model.specs.SwitchRow.{Acked, Stale, has_epoch}
-use Rattle.proto_model.specs.SwitchActs.{perform}
+use Rattle.proto_model.specs.SwitchOutcomes.{perform}
 use Rattle.rp_world.proofs.SwitchOver.{acked_over}
 use Rattle.rp_world.proofs.switch.Switch.on_ack.Goals as goal
 

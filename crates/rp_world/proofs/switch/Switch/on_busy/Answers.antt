@@ -3,7 +3,7 @@ use Rattle.std.specs.Prelude.{◌==◌, if◌then◌else◌}
 use Rattle.proto_model.specs.Ring.{remembers}
 use Rattle.proto_model.specs.SwitchState.{Switch, SwitchDid, with_slot}
 use Rattle.proto_model.specs.SwitchRow.{Stale, busy_row, without_asked}
-use Rattle.proto_model.specs.SwitchActs.{perform}
+use Rattle.proto_model.specs.SwitchOutcomes.{perform}
 use Rattle.rp_world.proofs.SwitchOver.{busied}
 use Rattle.rp_world.proofs.SwitchSteps.{stored_mid}
 use Rattle.rp_world.proofs.switch.Switch.on_busy.Goals as goal

@@ -3,7 +3,7 @@ use Rattle.std.specs.Prelude.{◌==◌, if◌then◌else◌}
 use Rattle.std.proofs.lemmas.Bool.{and_from}
 use Rattle.proto_model.specs.SwitchState.{Switch, SwitchDid, nothing, with_slot}
 use Rattle.proto_model.specs.SwitchRow.{Denied, Stale, has_epoch}
-use Rattle.proto_model.specs.SwitchActs.{perform, idled}
+use Rattle.proto_model.specs.SwitchOutcomes.{perform, idled}
 use Rattle.rp_world.proofs.SwitchOver.{idled_over}
 use Rattle.rp_world.proofs.switch.Switch.on_deny.Goals as goal
 

@@ -7,7 +7,7 @@ use Rattle.proto_data.specs.declared.message.Body.{Body}
 use Rattle.rp_base.specs.declared.event.DropCause.{DropCause}
 use Rattle.rp_base.specs.declared.event.Lost.{Lost}
 use Rattle.rp_app.specs.Application.{Delta, written}
-use Rattle.proto_model.specs.Carrying.{carried_packet, carried_output, output_of}
+use Rattle.proto_data.specs.Carrying.{carried_packet, carried_output, output_of}
 use Rattle.proto_model.specs.Table.{Key}
 use Rattle.proto_model.specs.Ring.{Ring, remember, remembers, forget}
 use Rattle.proto_model.specs.Slot.{Lease, Slot, Round, Idle, Asking, emptied, extended, acknowledged}

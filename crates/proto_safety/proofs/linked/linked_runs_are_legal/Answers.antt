@@ -1,0 +1,5 @@
+use Rattle.proto_safety.proofs.RunsAreLegal as legal
+use Rattle.proto_safety.proofs.linked.linked_runs_are_legal.Goals as goal
+
+pub returns : goal.returns
+returns c = legal.linked_runs_are_legal
