@@ -1,1 +1,2 @@
 pub mod MessageFits
+pub mod Carrying

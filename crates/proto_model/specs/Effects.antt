@@ -5,7 +5,7 @@ use Rattle.proto_data.specs.declared.message.Body.{Body}
 use Rattle.rp_base.specs.declared.node.Output.{Output}
 use Rattle.rp_base.specs.declared.node.Packet.{Packet}
 use Rattle.rp_base.specs.declared.event.DropCause.{DropCause}
-use Rattle.proto_model.specs.Carrying.{output_of}
+use Rattle.proto_data.specs.Carrying.{output_of}
 use Rattle.proto_model.specs.SwitchState.{SwitchDid, SwitchStep}
 use Rattle.proto_model.specs.ReplicaState.{StoreDid, StoreStep}
 use Rattle.proto_model.specs.World.{World, History, SwitchNode, ReplicaNode}

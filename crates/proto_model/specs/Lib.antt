@@ -1,5 +1,3 @@
-pub mod Carrying
-pub mod Table
 pub mod Ring
 pub mod Slot
 pub mod SwitchState

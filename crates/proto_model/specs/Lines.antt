@@ -6,7 +6,7 @@ use Rattle.rp_base.specs.declared.node.Node.{Node}
 use Rattle.rp_base.specs.declared.event.DropCause.{DropCause}
 use Rattle.rp_base.specs.declared.event.Lost.{Lost}
 use Rattle.rp_base.specs.declared.event.Refusal.{Refusal}
-use Rattle.proto_model.specs.Table.{Key}
+use Rattle.key_table.specs.Table.{Key}
 
 -- the kind of a message
 pub data Kind : Type 0 where

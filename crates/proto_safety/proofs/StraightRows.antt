@@ -1,7 +1,7 @@
 -- The straight paths of one run over two replicas, and of one over one replica.
 use Rattle.std.proofs.Common.{ℕ, ◌+◌, ◌≡◌, ◌≤◌, ◌<◌, [], ◌∷◌, Some, refl, arith, length}
 use Rattle.proto_data.specs.declared.message.Carried.{Carried}
-use Rattle.proto_model.specs.Carrying.{carried_packet, carried_output}
+use Rattle.proto_data.specs.Carrying.{carried_packet, carried_output}
 use Rattle.proto_model.specs.WorldStep.{Delivers}
 use Rattle.proto_model.specs.Runs.{Run, before, act_at}
 use Rattle.proto_safety.specs.StraightRuns.{run_of, hop, packet, out}

@@ -10,7 +10,7 @@ use Rattle.proto_data.specs.declared.message.Body.{Body}
 use Rattle.proto_data.specs.declared.message.Input.{Input}
 use Rattle.proto_data.specs.declared.message.Carried.{Carried}
 use Rattle.rp_app.specs.Application.{Application, Delta}
-use Rattle.proto_model.specs.Carrying.{carried_output, output_of}
+use Rattle.proto_data.specs.Carrying.{carried_output, output_of}
 use Rattle.proto_model.specs.Effects.{added}
 use Rattle.proto_model.specs.Feeds.{Each}
 use Rattle.proto_model.specs.Ring.{remembers}
@@ -20,7 +20,7 @@ use Rattle.proto_model.specs.Straight.{Hop, Hops, StraightPut, is_calm, slot_of,
 use Rattle.proto_model.specs.SwitchRow.{has_epoch}
 use Rattle.proto_model.specs.SwitchRows.{switch_step}
 use Rattle.proto_model.specs.SwitchState.{slot_at}
-use Rattle.proto_model.specs.Table.{Key}
+use Rattle.key_table.specs.Table.{Key}
 use Rattle.proto_model.specs.World.{World, SwitchNode, Released}
 use Rattle.proto_model.specs.WorldStep.{Act}
 use Rattle.proto_safety.specs.Books.{In, IsPrefix}
@@ -32,7 +32,7 @@ use Rattle.proto_safety.proofs.RunSteps.{event_at, ended, Onward, onward, at_bet
 use Rattle.proto_safety.proofs.SlotFirsts.{has_leased}
 use Rattle.proto_safety.proofs.StraightStart.{requested, put_waits}
 use Rattle.proto_safety.proofs.SwitchSends.{IsRequest}
-use Rattle.proto_safety.proofs.Tables.{same_some}
+use Rattle.key_table.proofs.Tables.{same_some}
 
 -- ---- lists
 

@@ -13,7 +13,7 @@ use Rattle.proto_data.specs.declared.message.Entry.{Entry}
 use Rattle.proto_data.specs.declared.message.Input.{Input}
 use Rattle.proto_data.specs.declared.message.Msg.{Msg}
 use Rattle.proto_data.specs.declared.message.Record.{Record}
-use Rattle.proto_model.specs.Table.{Key, get}
+use Rattle.key_table.specs.Table.{Key, get}
 use Rattle.proto_model.specs.Records.{Booked, records_of, applied, put_applied, delta_within}
 use Rattle.proto_model.specs.ReplicaState.{Replica, StoreStep, record_at, is_member, is_head, is_tail, predecessor_of}
 use Rattle.proto_model.specs.ReplicaRows.{StoreRow, Loses, Answers, Echoes, Appends, Gathers, AppendsSnap, Commits, Adopts, Resends, busy, switch_of, is_later, own_ask_row, other_ask_row, ask_row, numbered_row, put_row, echoed_row, covered, at_head, store_message_row, with_entry, owner_answer, entry_key, tail_appended, appended_as, appended, store_perform, store_step}

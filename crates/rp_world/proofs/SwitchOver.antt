@@ -7,14 +7,14 @@ use Rattle.rp_base.specs.declared.event.DropCause.{DropCause}
 use Rattle.proto_data.specs.declared.message.Carried.{Carried}
 use Rattle.proto_data.specs.declared.terms.Mode.{Mode}
 use Rattle.rp_app.specs.Application.{Application, Delta}
-use Rattle.proto_model.specs.Carrying.{packet_of}
+use Rattle.proto_data.specs.Carrying.{packet_of}
 use Rattle.proto_model.specs.Ring.{remembers}
-use Rattle.proto_model.specs.Table.{Key}
+use Rattle.key_table.specs.Table.{Key}
 use Rattle.proto_model.specs.Slot.{Slot, Lease, Idle, Asking, Held, Lapsed, is_young}
 use Rattle.proto_model.specs.SwitchState.{Switch, with_slot, slot_at, has_copies, only_dropped}
 use Rattle.proto_model.specs.SwitchRow.{SwitchRow, NewAsk, Stale, Busied, busy_row, carried_row, without_asked, AskAgain, Drops, Direct, Mirrored, Granted, is_clean, process_row, leased_row, processed}
 use Rattle.proto_model.specs.SwitchActs.{perform, after_new_ask, after_ask_again, after_direct, after_mirrored, after_acked, idled}
-use Rattle.rp_world.proofs.KeyTables.{put_put, put_same}
+use Rattle.key_table.proofs.KeyTables.{put_put, put_same}
 
 pub with_slot_twice : (s : Switch) (key : Key) (a b : Slot) → with_slot (with_slot s key a) key b ≡ with_slot s key b
 with_slot_twice s key a b = ap (λ t. record s { slots = t }) (put_put s.slots key a b)

@@ -10,7 +10,7 @@ use Rattle.rp_app.specs.Application.{Application}
 use Rattle.proto_data.specs.declared.message.Body.{Body}
 use Rattle.proto_data.specs.declared.message.Carried.{Carried}
 use Rattle.proto_data.specs.declared.message.Input.{Input}
-use Rattle.proto_model.specs.Carrying.{packet_of}
+use Rattle.proto_data.specs.Carrying.{packet_of}
 use Rattle.proto_model.specs.Ring.{remembers}
 use Rattle.proto_model.specs.Slot.{Lease, Slot, Idle, Asking, Held, Lapsed, lapsed_lease, extended, is_young, fresh_slot}
 use Rattle.proto_model.specs.SwitchState.{Switch, SwitchStep, Copy, lapsed, slot_at, has_copies, head_node, with_slot}
@@ -21,7 +21,7 @@ use Rattle.std.proofs.lemmas.List.Elements.{All-from_recursion}
 use Rattle.rp_world.specs.Steady.{IsSteadyLease, IsSteadySlot, IsSteady}
 use Rattle.rp_world.specs.OneEach.{IsForSwitch, IsRequest, IsRoutedTo, IsRouted, IsSoundSwitch}
 use Rattle.rp_world.specs.SoundRows.{IsSoundRow}
-use Rattle.proto_model.specs.Table.{put}
+use Rattle.key_table.specs.Table.{put}
 use Rattle.rp_world.proofs.EachOf.{each_map, each_weaker, each_append, each_filter, each_put, each_get}
 use Rattle.proto_safety.proofs.SlotCells.{length-written}
 

@@ -9,7 +9,7 @@ use Rattle.proto_data.specs.declared.message.Carried.{Carried}
 use Rattle.proto_data.specs.declared.message.Config.{Config}
 use Rattle.proto_data.specs.declared.terms.Mode.{Mode}
 use Rattle.rp_app.specs.Application.{Application, zeros}
-use Rattle.proto_model.specs.Table.{Key, Table, put, get, map_values}
+use Rattle.key_table.specs.Table.{Key, Table, put, get, map_values}
 use Rattle.proto_model.specs.Slot.{Slot, Lease, Idle, Asking, Held, Lapsed, is_young, lapsed_slot, fresh_slot}
 use Rattle.proto_model.specs.Ring.{remembers}
 use Rattle.proto_model.specs.SwitchState.{Switch, SwitchDid, SwitchStep, with_slot, slot_at, lapsed, only_released}

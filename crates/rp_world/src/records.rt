@@ -6,7 +6,7 @@ ghost use Rattle.rp_app.specs.Application.{written};
 ghost use Rattle.proto_data.specs.declared.message.Entry.{Entry as EntryValue};
 ghost use Rattle.proto_data.specs.declared.message.Record.{Record as RecordValue};
 ghost use Rattle.proto_model.specs.Records.{applied};
-ghost use Rattle.proto_model.specs.Table.{get};
+ghost use Rattle.key_table.specs.Table.{get};
 
 use indexmap::IndexMap;
 use proto_model::Record;
@@ -33,7 +33,7 @@ pub(crate) struct Records {
 
 impl Model for Records {
     ghost use Rattle.proto_data.specs.declared.message.Record.{Record as RecordValue};
-    ghost use Rattle.proto_model.specs.Table.{Table};
+    ghost use Rattle.key_table.specs.Table.{Table};
 
     ghost Value = { Table RecordValue };
 

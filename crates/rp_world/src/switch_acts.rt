@@ -1,7 +1,7 @@
 //! What a switch does in each row of its table.
 ghost use Rattle.std.specs.Prelude.{◌≡◌, ◌≤◌, ◌<◌, ◌^◌, [], All, IfOk, OnOk, length, option_map};
 ghost use Rattle.rp_app.specs.Application.{cells_named};
-ghost use Rattle.proto_model.specs.Carrying.{carried_output, carried_packet, packet_of};
+ghost use Rattle.proto_data.specs.Carrying.{carried_output, carried_packet, packet_of};
 ghost use Rattle.proto_model.specs.Slot.{Idle};
 ghost use Rattle.proto_model.specs.SwitchRow.{is_clean};
 ghost use Rattle.proto_model.specs.SwitchState.{only_dropped, only_lost};

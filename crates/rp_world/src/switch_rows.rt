@@ -1,7 +1,7 @@
 //! Which row of its table a switch takes.
 ghost use Rattle.std.specs.Prelude.{◌≡◌, ◌≤◌, ◌+◌, ◌^◌, All, Option, Some, None, IfOk, OnOk, length, true, if◌then◌else◌, ◌&&◌, ◌==◌, nat_lt};
 ghost use Rattle.rp_app.specs.Application.{zeros};
-ghost use Rattle.proto_model.specs.Carrying.{packet_of};
+ghost use Rattle.proto_data.specs.Carrying.{packet_of};
 ghost use Rattle.proto_model.specs.Ring.{remembers};
 ghost use Rattle.proto_model.specs.Slot.{fresh_slot};
 ghost use Rattle.proto_model.specs.SwitchRow.{Acked, Denied, Granted, Late, NewAsk, NoRoom, Stale, asked_mark, carried_row, granted, busy_row, grant_row, has_epoch, leased_row, process_row, without_asked};
