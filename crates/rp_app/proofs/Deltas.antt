@@ -123,3 +123,9 @@ with_cell-IsDelta ds cell v h lt =
 pub length-written : (cells : List ℕ) (delta : Delta) → length (written cells delta) ≡ length cells
 length-written cells [] = refl
 length-written cells (d ∷ ds) = length-written (set cells d.0 d.1) ds ∙ length-set cells d.0 d.1
+
+-- a delta that names cells below n writes cells below n
+pub each_below : (n : ℕ) (delta : Delta) → All (λ c. c < n) (cells_named delta) → All (λ (d : ℕ × ℕ). d.0 < n) delta
+each_below n [] h = All-nil (λ (d : ℕ × ℕ). d.0 < n)
+each_below n (d ∷ ds) h =
+    All-cons (λ (d : ℕ × ℕ). d.0 < n) d ds (All-head (λ (c : ℕ). c < n) d.0 (cells_named ds) h) (each_below n ds (All-tail (λ (c : ℕ). c < n) d.0 (cells_named ds) h))
