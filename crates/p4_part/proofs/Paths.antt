@@ -1,6 +1,8 @@
 -- The front of a path that ends in a word.
-use Rattle.std.proofs.Common.{◌≡◌, ℕ, Bool, true, false, cond, List, [], ◌∷◌, ◌++◌, Option, Some, None, MatchOption, ◌≤◌, length, arith, refl, ap, ◌∙◌, subst}
+use Rattle.std.proofs.Common.{◌≡◌, ℕ, ◌+◌, ◌-◌, take, sym, Bool, true, false, cond, List, [], ◌∷◌, ◌++◌, Option, Some, None, MatchOption, ◌≤◌, length, arith, refl, ap, ◌∙◌, subst}
 use Rattle.std.specs.Str.{bytes_eq}
+use Rattle.std.proofs.Math.Seq.{take-append_seam}
+use Rattle.std.proofs.lemmas.List.{length-append}
 use Rattle.p4_ast.specs.declared.name.P4Name.{P4Name}
 use Rattle.p4_grammar.specs.Tokens.{before, called}
 use Rattle.p4_grammar.specs.Trees.{alone}
@@ -29,6 +31,14 @@ front_popped None old new m text front h =
     let none : called_in text [] ≡ Some front = subst (λ (q : List P4Name). called_in text q ≡ Some front) m.0 h in
     absurd cc
 front_popped (Some l) old new m text front h = front_is text new l front (subst (λ (q : List P4Name). called_in text q ≡ Some front) m h)
+
+-- without its last name, whatever that is, a path is its front
+pub popped_front : (result : Option P4Name) (old new : List P4Name) → MatchOption result ((old ≡ []) × (new ≡ [])) (λ last. old ≡ new ++ last ∷ []) → new ≡ take (length old - 1) old
+popped_front None old new m = rw (m.0, m.1) refl
+popped_front (Some l) old new m =
+    let size : length old ≡ length new + 1 = ap length m ∙ length-append new (l ∷ []) in
+    let less : length old - 1 ≡ length new = omega (arith, size) in
+    sym (ap (λ n. take n old) less ∙ ap (λ q. take (length new) q) m ∙ take-append_seam new (l ∷ []))
 
 cond_long : (x y : P4Name) (b : Bool) → alone (before x (cond b (Some (y ∷ [])) None)) ≡ None
 cond_long x y true = refl

@@ -15,10 +15,6 @@ abbrev pub of_option : {A : Type 0} → Option A → Result A (Unit {0})
 of_option (Some x) = Ok x
 of_option None = Err tt
 
-abbrev pub is_some : {A : Type 0} → Option A → Bool
-is_some None = false
-is_some (Some x) = true
-
 -- the path before its last name, where that has this text and isn't alone
 abbrev pub called_in : List ℕ → List P4Name → Option (List P4Name)
 called_in text [] = None

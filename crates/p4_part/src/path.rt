@@ -1,5 +1,5 @@
 //! Paths, slices and left sides.
-ghost use Rattle.std.specs.Prelude.{◌≡◌, Some, None, if◌then◌else◌};
+ghost use Rattle.std.specs.Prelude.{◌≡◌, ◌-◌, Some, None, if◌then◌else◌, length, take};
 ghost use Rattle.p4_grammar.specs.Forms.{Gives};
 ghost use Rattle.p4_part.specs.Made.{called_in};
 ghost use Rattle.p4_grammar.specs.Tokens.{called};
@@ -29,7 +29,8 @@ pub fn is_only(text: &[u8], _first: &P4Name, more: &[P4Name]) -> bool
 
 /// The names before the last one.
 pub fn front_of(names: Items<P4Name>) -> Items<P4Name>
-    ensures { (text : _) (front : _) → called_in text names ≡ Some front → result ≡ front }
+    ensures front { result ≡ take (length names - 1) names }
+    ensures called { (text : _) (front : _) → called_in text names ≡ Some front → result ≡ front }
 {
     let mut front = names;
     let _ = front.pop();

@@ -1,7 +1,8 @@
 //! Expressions as they were spelled.
 ghost use Rattle.std.specs.Prelude.{◌≡◌};
 ghost use Rattle.p4_grammar.specs.declared.mark.Mark.TheVariants as mark;
-ghost use Rattle.p4_part.specs.Made.{Makes, is_some, called_in};
+ghost use Rattle.p4_part.specs.Made.{Makes, called_in};
+ghost use Rattle.p4_grammar.specs.ReadingStatements.{is_some};
 ghost use Rattle.p4_grammar.specs.Values.{later as later_of, of_cast, of_path, is_bare as is_bare_of, cast_by, first_at, path_of as path_is, path_value as path_value_of, valid_value as valid_value_of, slice_value as slice_value_of, cast_value as cast_value_of, unary_value as unary_value_of, binary as binary_of, choice_value as choice_value_of};
 
 use crate::typedefs::Typedefs;

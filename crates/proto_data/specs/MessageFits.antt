@@ -9,6 +9,7 @@ use Rattle.proto_data.specs.declared.message.Echoed.{Echoed}
 use Rattle.proto_data.specs.declared.message.Carried.{Carried}
 use Rattle.proto_data.specs.declared.message.Config.{Config}
 use Rattle.rp_app.specs.Application.{Delta, rising, cells_named}
+use Rattle.proto_data.specs.declared.limits.TheConstants.{SWITCHES, REPLICAS}
 
 -- a number of four bytes
 abbrev pub is_u32 : ℕ → Bool
@@ -36,7 +37,7 @@ mark_fits None = true
 mark_fits (Some m) = is_u32 m
 
 abbrev pub switch_fits : ℕ → Bool
-switch_fits n = nat_lt n 8
+switch_fits n = nat_lt n SWITCHES
 
 abbrev pub entry_spelled : Entry → Bool
 entry_spelled (Entry.Grant key epoch switch inc nonce) = key_fits key && (are_u32 epoch inc nonce && switch_fits switch)
@@ -51,7 +52,7 @@ abbrev pub config_fits : Config → Bool
 config_fits c =
     is_u32 c.number
     && (nat_le 1 (length c.chain)
-    && (nat_le (length c.chain) 5 && (rising c.chain && list_all (λ n. nat_lt n 5) c.chain)))
+    && (nat_le (length c.chain) REPLICAS && (rising c.chain && list_all (λ n. nat_lt n REPLICAS) c.chain)))
 
 -- what a switch asks of the store
 abbrev pub is_request : Body → Bool
@@ -92,12 +93,12 @@ is_switch (Node.Switch n) = switch_fits n
 is_switch _ = false
 
 abbrev pub is_store : Node → Bool
-is_store (Node.Replica n) = nat_lt n 5
+is_store (Node.Replica n) = nat_lt n REPLICAS
 is_store _ = false
 
 abbrev pub from_master : Node → Node → Bool
 from_master Node.Master (Node.Switch n) = switch_fits n
-from_master Node.Master (Node.Replica n) = nat_lt n 5
+from_master Node.Master (Node.Replica n) = nat_lt n REPLICAS
 from_master _ _ = false
 
 -- the sorts of nodes between which a kind goes

@@ -4,15 +4,10 @@ ghost use Rattle.std.specs.List.{list_all};
 ghost use Rattle.rp_app.specs.Application.{cells_named, rising};
 ghost use Rattle.proto_data.specs.MessageFits.{are_u32, body_fits, cells_fit, config_fits, delta_fits, echoed_fits, entry_spelled, from_master, is_answer, is_request, is_store, is_switch, is_u32, key_fits, load_fits, mark_fits, message_fits, nodes_fit, switch_fits};
 
+use crate::limits::{REPLICAS, SWITCHES};
 use crate::message::{Body, Carried, Config, Echoed, Entry, Msg};
 use rp_app::Delta;
 use rp_base::{Cells, Key, Node};
-
-/// How many switches a run may have.
-const SWITCHES: u8 = 8;
-
-/// How many replicas a run may have.
-const REPLICAS: u8 = 5;
 
 fn is_u32(n: u64) -> bool
     ensures { result ≡ is_u32 n }

@@ -3,7 +3,7 @@ use Rattle.std.specs.Prelude.{ℕ, Bool, false, ◌&&◌, ◌==◌, List, [], �
 use Rattle.rp_base.specs.declared.legality.Flow.{Flow}
 use Rattle.proto_data.specs.declared.message.Entry.{Entry}
 use Rattle.proto_data.specs.declared.message.Record.{Record}
-use Rattle.proto_model.specs.Table.{Key, get, same_key}
+use Rattle.key_table.specs.Table.{Key, get, same_key}
 use Rattle.proto_model.specs.Records.{Booked, Records, records_of}
 use Rattle.proto_model.specs.World.{World, ReplicaNode, Journaled}
 

@@ -4,7 +4,7 @@ use Rattle.proto_data.specs.declared.terms.Mode.{Mode}
 use Rattle.proto_data.specs.declared.message.Record.{Record}
 use Rattle.rp_base.specs.declared.event.Event.{Event}
 use Rattle.rp_app.specs.Application.{Application}
-use Rattle.proto_model.specs.Table.{Key}
+use Rattle.key_table.specs.Table.{Key}
 use Rattle.proto_model.specs.World.{World, Setup}
 use Rattle.proto_model.specs.Lines.{Line, Serial, Epoch, CellsLine, End, without_sends}
 use Rattle.proto_model.specs.Committed.{committed_book, committed_records, epochs_of, journal, serial_marks}

@@ -1,7 +1,7 @@
 -- What was fed, by its mark.
 use Rattle.std.specs.Prelude.{ℕ, ◌==◌, List, [], ◌∷◌, Option, find, option_map, option_and_then, filter_map}
 use Rattle.rp_base.specs.declared.node.Packet.{Packet}
-use Rattle.proto_model.specs.Table.{Key}
+use Rattle.key_table.specs.Table.{Key}
 use Rattle.rp_app.specs.Application.{Application}
 use Rattle.rp_base.specs.declared.legality.Fed.{Fed}
 

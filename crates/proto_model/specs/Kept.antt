@@ -1,7 +1,7 @@
 -- What a snapshot run may lose: items behind the begin of an epoch's greatest committed round.
 use Rattle.std.specs.Prelude.{ℕ, zero, suc, ◌≡◌, ◌<◌, ◌+◌, ◌-◌, ◌==◌, ◌&&◌, Bool, List, Option, Some, None, map, filter, take, drop, length, find, slice_get}
 use Rattle.std.specs.List.{IsAmong}
-use Rattle.proto_model.specs.Table.{Key, same_key}
+use Rattle.key_table.specs.Table.{Key, same_key}
 use Rattle.rp_app.specs.Application.{Application, after, zeros}
 use Rattle.proto_model.specs.World.{World, Journaled, RoundBegun}
 use Rattle.rp_base.specs.declared.legality.Released.{Released}

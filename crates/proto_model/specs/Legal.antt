@@ -3,7 +3,7 @@ use Rattle.std.specs.Prelude.{ℕ, ◌≡◌, ◌≢◌, ◌<◌, ◌==◌, not,
 use Rattle.std.specs.List.{IsAmong}
 use Rattle.rp_base.specs.declared.node.Output.{Output}
 use Rattle.rp_base.specs.declared.node.Packet.{Packet}
-use Rattle.proto_model.specs.Table.{Key, same_key}
+use Rattle.key_table.specs.Table.{Key, same_key}
 use Rattle.rp_app.specs.Application.{Application, after, zeros}
 use Rattle.proto_model.specs.World.{World}
 use Rattle.rp_base.specs.declared.legality.Fed.{Fed}

@@ -1,4 +1,3 @@
-pub mod Table
 pub mod Ring
 pub mod Slot
 pub mod SwitchState

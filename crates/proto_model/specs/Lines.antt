@@ -7,7 +7,7 @@ use Rattle.rp_base.specs.declared.line.Line.{Line as Printed}
 use Rattle.rp_base.specs.declared.event.DropCause.{DropCause}
 use Rattle.rp_base.specs.declared.event.Lost.{Lost}
 use Rattle.rp_base.specs.declared.event.Refusal.{Refusal}
-use Rattle.proto_model.specs.Table.{Key}
+use Rattle.key_table.specs.Table.{Key}
 
 -- the kind of a message
 pub data Kind : Type 0 where

@@ -1,7 +1,7 @@
 -- The whole of what a snapshot run may lose and show.
 use Rattle.std.specs.Prelude.{ℕ, ◌≡◌, ◌≢◌, ◌<◌, ◌⊎◌, Some, None, slice_get}
 use Rattle.proto_data.specs.declared.message.Record.{Record}
-use Rattle.proto_model.specs.Table.{Key}
+use Rattle.key_table.specs.Table.{Key}
 use Rattle.rp_app.specs.Application.{Application, zeros}
 use Rattle.proto_model.specs.World.{World, Journaled}
 use Rattle.rp_base.specs.declared.legality.Released.{Released}

@@ -4,7 +4,7 @@ use Rattle.std.specs.List.{list_all}
 use Rattle.proto_data.specs.declared.message.Record.{Record}
 use Rattle.proto_data.specs.declared.message.Entry.{Entry}
 use Rattle.rp_app.specs.Application.{Delta, written, zeros}
-use Rattle.proto_model.specs.Table.{Key, Table, get, put}
+use Rattle.key_table.specs.Table.{Key, Table, get, put}
 
 -- records in order of first Grant
 abbrev pub Records : Type 0

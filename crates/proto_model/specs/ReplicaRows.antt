@@ -11,10 +11,11 @@ use Rattle.proto_data.specs.declared.message.Carried.{Carried}
 use Rattle.proto_data.specs.declared.message.Config.{Config}
 use Rattle.rp_base.specs.declared.event.Lost.{Lost}
 use Rattle.rp_app.specs.Application.{Delta, zeros}
-use Rattle.proto_model.specs.Table.{Key, get, put}
+use Rattle.key_table.specs.Table.{Key, get, put}
 use Rattle.proto_model.specs.Slot.{chunk_count, chunk_of}
 use Rattle.proto_model.specs.Records.{applied, delta_within, entry_fits}
 use Rattle.proto_model.specs.ReplicaState.{Replica, StoreStep, Gathered, store_sent, store_lost, record_at, is_member, is_head, is_tail, to_node, to_successor, to_predecessor, to_tail, gathering_of, with_part, whole_cells}
+use Rattle.proto_data.specs.declared.limits.TheConstants.{RECORDS, PENDING, MESSAGES}
 
 -- A row with what it needs.
 pub data StoreRow : Type 0 where
@@ -73,7 +74,7 @@ other_ask_row s now from inc nonce key load r =
 
 abbrev pub ask_row : Replica → ℕ → Node → ℕ → ℕ → Key → Option Carried → Option Record → StoreRow
 ask_row s now from inc nonce key load None =
-    if nat_lt (length s.records) 65536
+    if nat_lt (length s.records) RECORDS
     then Appends (Entry.Grant key 1 (switch_of from) inc nonce) load
     else busy from inc nonce key load
 ask_row s now from inc nonce key load (Some r) =
@@ -249,7 +250,7 @@ appended_as true false false s now entry load = inner_appended (with_entry s ent
 
 abbrev pub appended : Replica → ℕ → Entry → Option Carried → StoreStep
 appended s now entry load =
-    appended_as (is_member s) (is_tail s) (nat_le 256 (length s.pending)) s now entry load
+    appended_as (is_member s) (is_tail s) (nat_le PENDING (length s.pending)) s now entry load
 
 -- a new configuration, by whether the replica is its tail
 abbrev pub configured_as : Bool → Replica → StoreStep
@@ -279,7 +280,7 @@ store_perform s now (Commits index) = (
   store_sent (to_predecessor s (Body.Have index)),
 )
 store_perform s now (Adopts config) = after_config (record s { config = config })
-store_perform s now Resends = (s, store_sent (forwards s (s.known + 1) (take 64 s.pending)))
+store_perform s now Resends = (s, store_sent (forwards s (s.known + 1) (take MESSAGES s.pending)))
 
 -- One step of a replica. It reads this replica's state alone.
 abbrev pub store_step : Replica → ℕ → Input → StoreStep

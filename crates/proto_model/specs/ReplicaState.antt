@@ -9,7 +9,7 @@ use Rattle.proto_data.specs.declared.message.Record.{Record}
 use Rattle.proto_data.specs.declared.message.Config.{Config}
 use Rattle.proto_data.specs.declared.terms.Terms.{Terms}
 use Rattle.rp_base.specs.declared.event.Lost.{Lost}
-use Rattle.proto_model.specs.Table.{Key, Table, get}
+use Rattle.key_table.specs.Table.{Key, Table, get}
 use Rattle.proto_model.specs.Records.{Records}
 
 -- the chunks that came of one round, each at its place

@@ -14,7 +14,7 @@ use Rattle.proto_data.specs.declared.message.Record.{Record}
 use Rattle.rp_base.specs.declared.event.DropCause.{DropCause}
 use Rattle.rp_app.specs.Application.{Delta}
 use Rattle.proto_data.specs.Carrying.{carried_packet, carried_output}
-use Rattle.proto_model.specs.Table.{Key, same_key}
+use Rattle.key_table.specs.Table.{Key, same_key}
 use Rattle.proto_model.specs.Ring.{remembers}
 use Rattle.proto_model.specs.Slot.{Lease, Slot, Asking, is_young}
 use Rattle.proto_model.specs.SwitchState.{slot_at}
@@ -27,6 +27,7 @@ use Rattle.proto_model.specs.Lines.{Dropped}
 use Rattle.proto_model.specs.Feeds.{Each}
 use Rattle.proto_model.specs.WorldStep.{Act, Delivers, Stops, Boots, Detects}
 use Rattle.proto_model.specs.Runs.{Run, before, act_at, lines_at, between}
+use Rattle.proto_data.specs.declared.limits.TheConstants.{COPIES, MARKS, PENDING}
 
 -- ---- frames that are handed on
 
@@ -86,7 +87,7 @@ reached r h = replica_at (before r h.place) h.msg.to
 -- the tail, or fewer than 256 pending entries
 abbrev pub has_room : Option ReplicaNode → Bool
 has_room None = false
-has_room (Some node) = is_tail node.state || nat_lt (length node.state.pending) 256
+has_room (Some node) = is_tail node.state || nat_lt (length node.state.pending) PENDING
 
 -- the replica has applied exactly the entries before the Forward's index
 abbrev pub comes_next : Option ReplicaNode → Body → Bool
@@ -141,7 +142,7 @@ pub record StraightPut (r : Run) (place s : ℕ) (key : Key) (inc epoch number :
   pub put : first.msg.body ≡ Body.Put inc epoch number key delta (Some (carried_output out))
   pub head : put_next epoch number (record_of (reached r first) key) ≡ true
   pub owned : Each (λ i. owns epoch (slot_of (before r i) s key) ≡ true) (between place (last.place + 1))
-  pub few : later_marks (before r last.place) s key first.frame < 64
+  pub few : later_marks (before r last.place) s key first.frame < MARKS
   pub waits : Each (λ (x : Released). x.output.mark ≢ out.mark) (before r last.place).history.released
 
 -- its output is released at the last event
@@ -187,7 +188,7 @@ Processed r key epoch packet last =
 -- or it is dropped there, with 1,024 copies
 abbrev pub NoMirror : Run → ℕ → Packet → Hop → Type 0
 NoMirror r s packet last =
-    ((node : SwitchNode) × (slice_get (before r last.place).switches s ≡ Some node) × (length node.state.copies ≡ 1024))
+    ((node : SwitchNode) × (slice_get (before r last.place).switches s ≡ Some node) × (length node.state.copies ≡ COPIES))
     × IsAmong (lines_at r last.place) (Dropped (last.place + 1) packet.mark DropCause.Mirror)
 
 abbrev pub AskAnswered : Run → ℕ → Key → ℕ → Packet → Hop → Type 0

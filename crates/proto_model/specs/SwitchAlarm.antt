@@ -3,9 +3,10 @@ use Rattle.std.specs.Prelude.{ℕ, ◌+◌, ◌-◌, ◌/◌, zero, suc, Bool, t
 use Rattle.proto_data.specs.declared.message.Body.{Body}
 use Rattle.proto_data.specs.declared.message.Msg.{Msg}
 use Rattle.proto_data.specs.declared.terms.Mode.{Mode}
-use Rattle.proto_model.specs.Table.{Key, Table, same_key}
+use Rattle.key_table.specs.Table.{Key, Table, same_key}
 use Rattle.proto_model.specs.Slot.{Slot, Round, Lease, Idle, Asking, Held, Lapsed, epoch_of, is_young, chunk_count, chunk_of}
 use Rattle.proto_model.specs.SwitchState.{Switch, SwitchStep, Copy, Begun, slot_at, with_slot, has_copies, to_head}
+use Rattle.proto_data.specs.declared.limits.TheConstants.{COPIES, MESSAGES}
 
 abbrev pub is_due : ℕ → ℕ → Copy → Bool
 is_due now age c = nat_le age (now - c.sent)
@@ -92,7 +93,7 @@ snap_slot w now key slot epoch expiry None =
 -- a Held slot in a strict Alarm
 abbrev pub strict_slot : Walk → ℕ → Key → Slot → ℕ → ℕ → Walk
 strict_slot w now key slot epoch expiry =
-    if nat_lt (length w.state.copies) 1024 && (not (has_copies w.state key) && ends_soon w.state now slot expiry)
+    if nat_lt (length w.state.copies) COPIES && (not (has_copies w.state key) && ends_soon w.state now slot expiry)
     then empty_put w now key slot epoch
     else w
 
@@ -119,7 +120,7 @@ walked_more w now key false = w
 -- the slots in turn, until the 64th message
 abbrev pub walked_slots : Walk → ℕ → List Key → Walk
 walked_slots w now [] = w
-walked_slots w now (key ∷ keys) = walked_slots (walked_more w now key (nat_lt (length w.sent) 64)) now keys
+walked_slots w now (key ∷ keys) = walked_slots (walked_more w now key (nat_lt (length w.sent) MESSAGES)) now keys
 
 -- the keys up to and with this one, and those behind it
 abbrev pub keys_to : Key → List Key → List Key
@@ -140,7 +141,7 @@ abbrev pub resent : Switch → ℕ → List Copy → List Copy → Walk
 resent s now due others =
     record {
       state = record s { copies = others ++ map (λ (c : Copy). record c { sent = now }) due };
-      sent = take 64 (map (resent_put s) due ++ repeated_asks s now s.slots);
+      sent = take MESSAGES (map (resent_put s) due ++ repeated_asks s now s.slots);
       begun = [];
     }
 
@@ -151,6 +152,6 @@ abbrev pub alarm : Switch → ℕ → SwitchStep
 alarm s now =
     walk_did
     (walked_slots
-    (resent s now (due_copies now (s.terms.t_switch / 4) 64 s.copies) (other_copies now (s.terms.t_switch / 4) 64 s.copies))
+    (resent s now (due_copies now (s.terms.t_switch / 4) MESSAGES s.copies) (other_copies now (s.terms.t_switch / 4) MESSAGES s.copies))
     now
     (walk_order s.walked (map (λ (e : Key × Slot). e.0) s.slots)))

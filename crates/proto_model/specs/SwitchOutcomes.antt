@@ -8,7 +8,7 @@ use Rattle.rp_base.specs.declared.event.DropCause.{DropCause}
 use Rattle.rp_base.specs.declared.event.Lost.{Lost}
 use Rattle.rp_app.specs.Application.{Delta, written}
 use Rattle.proto_data.specs.Carrying.{carried_packet, carried_output, output_of}
-use Rattle.proto_model.specs.Table.{Key}
+use Rattle.key_table.specs.Table.{Key}
 use Rattle.proto_model.specs.Ring.{Ring, remember, remembers, forget}
 use Rattle.proto_model.specs.Slot.{Lease, Slot, Round, Idle, Asking, emptied, extended, acknowledged}
 use Rattle.proto_model.specs.SwitchState.{Switch, SwitchDid, SwitchStep, Item, nothing, only_sent, only_dropped, only_lost, only_released, with_slot, without_copies, is_covered, greatest_first, to_head}

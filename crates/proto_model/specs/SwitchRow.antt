@@ -10,10 +10,11 @@ use Rattle.proto_data.specs.declared.terms.Mode.{Mode}
 use Rattle.rp_base.specs.declared.event.DropCause.{DropCause}
 use Rattle.rp_app.specs.Application.{Application, Delta, zeros}
 use Rattle.proto_data.specs.Carrying.{packet_of}
-use Rattle.proto_model.specs.Table.{Key}
+use Rattle.key_table.specs.Table.{Key}
 use Rattle.proto_model.specs.Ring.{remembers, forget}
 use Rattle.proto_model.specs.Slot.{Lease, Slot, Round, Idle, Asking, Held, Lapsed, fresh_slot, is_young, may, updated, no_ages}
 use Rattle.proto_model.specs.SwitchState.{Switch, slot_at, has_copies}
+use Rattle.proto_data.specs.declared.limits.TheConstants.{COPIES, SLOTS}
 
 -- A row with what it needs. The slot is the one to be stored, before what the row itself does to it.
 pub data SwitchRow : Type 0 where
@@ -59,7 +60,7 @@ is_clean (d ∷ ds) = false
 -- a packet in a Held slot, by the mode and by what the application makes of it
 abbrev pub process_row : Mode → Switch → ℕ → Key → Slot → ℕ → ℕ → Delta × Option Output → SwitchRow
 process_row Mode.Strict s now key slot epoch mark made =
-    if nat_le 1024 (length s.copies)
+    if nat_le COPIES (length s.copies)
     then Drops key slot mark DropCause.Mirror
     else
     (if is_clean made.0 && not (has_copies s key)
@@ -88,7 +89,7 @@ leased_row app s now key slot packet (Lapsed nonce epoch expiry) = NewAsk key sl
 -- a packet with a key, by its slot
 abbrev pub keyed_row : Application → Switch → ℕ → Packet → Key → Option Slot → SwitchRow
 keyed_row app s now packet key None =
-    if nat_lt (length s.slots) 1024 then NewAsk key fresh_slot packet else NoRoom packet.mark
+    if nat_lt (length s.slots) SLOTS then NewAsk key fresh_slot packet else NoRoom packet.mark
 keyed_row app s now packet key (Some slot) = leased_row app s now key slot packet slot.lease
 
 abbrev pub packet_row : Application → Switch → ℕ → Packet → Option Key → SwitchRow

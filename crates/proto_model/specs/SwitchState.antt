@@ -10,7 +10,7 @@ use Rattle.proto_data.specs.declared.terms.Terms.{Terms}
 use Rattle.rp_base.specs.declared.event.DropCause.{DropCause}
 use Rattle.rp_base.specs.declared.event.Lost.{Lost}
 use Rattle.rp_app.specs.Application.{Delta}
-use Rattle.proto_model.specs.Table.{Key, Table, get, put, map_values, same_key}
+use Rattle.key_table.specs.Table.{Key, Table, get, put, map_values, same_key}
 use Rattle.proto_model.specs.Slot.{Slot, lapsed_slot}
 
 -- a Put that waits for its Ack, without its output

@@ -16,6 +16,7 @@ use Rattle.proto_model.specs.ReplicaRows.{store_step}
 use Rattle.proto_model.specs.World.{World, Setup, SwitchNode, ReplicaNode, believed_switches, running_switches, running_replicas, opened}
 use Rattle.proto_model.specs.Lines.{Line, Refused, send_lines}
 use Rattle.proto_model.specs.Effects.{switch_moved, replica_moved, packet_fed, frame_passed, master_sent, switch_lines, store_lines}
+use Rattle.proto_data.specs.declared.limits.TheConstants.{FRAMES, MESSAGES}
 
 abbrev pub WorldStep : Type 0
 WorldStep = World × List Line
@@ -67,7 +68,7 @@ believed_up w (Node.Replica n) = list_any (λ m. m == n) w.config.chain
 believed_up w Node.Master = false
 
 abbrev pub frames_full : World → Bool
-frames_full w = nat_lt 65536 (length w.frames + 64)
+frames_full w = nat_lt FRAMES (length w.frames + MESSAGES)
 
 -- each advance is at most (1000 + ratio) / 1000 of each other one
 abbrev pub rates_hold : List ℕ → ℕ → Bool

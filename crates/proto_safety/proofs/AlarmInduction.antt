@@ -3,7 +3,7 @@ use Rattle.std.proofs.Common.{◌≡◌, ℕ, ◌+◌, List, [], ◌∷◌, leng
 use Rattle.std.specs.Prelude.{nat_lt, is_some, if◌then◌else◌, ◌||◌, ◌&&◌, not}
 use Rattle.std.proofs.lemmas.Bool.{and_parts, not-true}
 use Rattle.proto_data.specs.declared.terms.Mode.{Mode}
-use Rattle.proto_model.specs.Table.{Key}
+use Rattle.key_table.specs.Table.{Key}
 use Rattle.proto_model.specs.Slot.{Slot, Lease, Held, Round}
 use Rattle.proto_model.specs.SwitchState.{slot_at, has_copies}
 use Rattle.proto_model.specs.SwitchAlarm.{Walk, empty_put, chunk_sent, snap_slot, held_slot, walked_slot, walked_key, walked_more, walked_slots, ends_soon}

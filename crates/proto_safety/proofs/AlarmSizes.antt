@@ -10,7 +10,7 @@ use Rattle.proto_data.specs.declared.terms.Mode.{Mode}
 use Rattle.proto_data.specs.declared.terms.Terms.{Terms}
 use Rattle.proto_data.specs.MessageFits.{is_store, is_switch}
 use Rattle.proto_model.specs.Feeds.{Each}
-use Rattle.proto_model.specs.Table.{Key, Table}
+use Rattle.key_table.specs.Table.{Key, Table}
 use Rattle.proto_model.specs.Slot.{Slot, Lease, Round, Idle, Asking, Held, Lapsed, epoch_of, is_young, chunk_count, chunk_of}
 use Rattle.proto_model.specs.SwitchState.{Switch, Copy, slot_at, is_of, has_copies, head_node}
 use Rattle.proto_model.specs.SwitchAlarm.{Walk, alarm, due_copies, other_copies, resent_put, repeated_ask, repeated_asks, walk_order}
@@ -18,7 +18,7 @@ use Rattle.proto_safety.specs.Sizes.{KeySized, MsgSized, ConfigSized, LeaseSized
 use Rattle.proto_safety.proofs.Lists.{each_append, each_if, each_take, each_weaker, length_take_le, each_all}
 use Rattle.proto_safety.proofs.SizesUp.{slot_up, copy_up, config_up}
 use Rattle.proto_safety.proofs.SizesOf.{each_put, each_get, head_is, no_delta, chunk_some, chunk_few}
-use Rattle.proto_safety.proofs.Tables.{same_key-refl}
+use Rattle.key_table.proofs.Tables.{same_key-refl}
 use Rattle.proto_safety.proofs.AlarmInduction.{WalkKeeps, walk_kept, round_slot, new_round}
 use Rattle.proto_safety.proofs.FlowAlarm.{in_due, in_other}
 use Rattle.proto_safety.proofs.Chains.{each_in}

@@ -3,7 +3,7 @@ use Rattle.std.proofs.Common.{◌≡◌, ℕ, List, [], ◌∷◌, ◌++◌, Opt
 use Rattle.proto_data.specs.declared.message.Entry.{Entry}
 use Rattle.rp_base.specs.declared.event.Event.{Event}
 use Rattle.rp_app.specs.Application.{Application}
-use Rattle.proto_model.specs.Table.{Key}
+use Rattle.key_table.specs.Table.{Key}
 use Rattle.proto_model.specs.World.{World, Setup, ReplicaNode, opened}
 use Rattle.proto_model.specs.WorldStep.{world_after}
 use Rattle.proto_safety.specs.Books.{In, IsGranted, BooksHold, entries_at, book_of, committed_of}

@@ -4,12 +4,12 @@ use Rattle.std.specs.Prelude.{if◌then◌else◌, option_map}
 use Rattle.std.proofs.lemmas.Bool.{both_ways}
 use Rattle.rp_app.specs.Application.{Delta, zeros, written}
 use Rattle.proto_data.specs.declared.message.Entry.{Entry}
-use Rattle.proto_model.specs.Table.{Key, same_key}
+use Rattle.key_table.specs.Table.{Key, same_key}
 use Rattle.proto_model.specs.ReplicaRows.{entry_key}
 use Rattle.proto_safety.specs.Books.{In}
 use Rattle.proto_safety.specs.Flows.{FlowRecord, FitsFrom, Follows, flow_cells, flow_step, flow_from}
 use Rattle.proto_safety.specs.LeaseLaws.{HasEpoch}
-use Rattle.proto_safety.proofs.Tables.{same_key-true, same_key-refl}
+use Rattle.key_table.proofs.Tables.{same_key-true, same_key-refl}
 
 -- What an entry that comes next makes of a flow. Each later fact is by these cases.
 pub data Stepped (n : ℕ) (key : Key) : Option FlowRecord → Entry → Option FlowRecord → Type 0 where

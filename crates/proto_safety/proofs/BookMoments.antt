@@ -6,7 +6,7 @@ use Rattle.proto_data.specs.declared.message.Entry.{Entry}
 use Rattle.proto_data.specs.declared.message.Record.{Record}
 use Rattle.rp_base.specs.declared.event.Event.{Event}
 use Rattle.rp_app.specs.Application.{Application}
-use Rattle.proto_model.specs.Table.{Key, same_key, get, put}
+use Rattle.key_table.specs.Table.{Key, same_key, get, put}
 use Rattle.proto_model.specs.Records.{Booked, Records, applied, put_applied, snap_applied, records_of}
 use Rattle.proto_model.specs.ReplicaRows.{entry_key, store_step}
 use Rattle.proto_model.specs.Feeds.{Each, Pairwise}
@@ -18,7 +18,7 @@ use Rattle.proto_safety.proofs.Chains.{each_in}
 use Rattle.proto_safety.proofs.FlowAlarm.{in_append}
 use Rattle.proto_safety.proofs.FedMarks.{pairwise_push}
 use Rattle.proto_safety.proofs.StoreStands.{book_after}
-use Rattle.proto_safety.proofs.Tables.{get-put_same, get-put_other, same_key-true, same_key-refl, same_some}
+use Rattle.key_table.proofs.Tables.{get-put_same, get-put_other, same_key-true, same_key-refl, same_some}
 use Rattle.proto_safety.proofs.Induction.{Keeps, run_kept}
 
 -- applied by this moment

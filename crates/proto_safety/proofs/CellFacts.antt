@@ -9,7 +9,7 @@ use Rattle.proto_data.specs.declared.message.Entry.{Entry}
 use Rattle.proto_data.specs.declared.message.Carried.{Carried}
 use Rattle.proto_data.specs.declared.terms.Mode.{Mode}
 use Rattle.rp_app.specs.Application.{Application, Delta}
-use Rattle.proto_model.specs.Table.{Key}
+use Rattle.key_table.specs.Table.{Key}
 use Rattle.proto_model.specs.Feeds.{Each}
 use Rattle.proto_model.specs.Records.{Booked}
 use Rattle.proto_model.specs.Stands.{entries_of}
@@ -32,7 +32,7 @@ use Rattle.proto_safety.proofs.SerialLists.{closing_in, closes, journal_in, fron
 use Rattle.proto_safety.proofs.SwitchCells.{SwitchStands}
 use Rattle.proto_safety.proofs.SwitchNodes.{AllAt}
 use Rattle.proto_safety.proofs.SwitchTable.{msg}
-use Rattle.proto_safety.proofs.Tables.{get-map_values}
+use Rattle.key_table.proofs.Tables.{get-map_values}
 use Rattle.proto_safety.proofs.WorldSays.{AllSay}
 use Rattle.proto_safety.proofs.Induction.{Comes}
 

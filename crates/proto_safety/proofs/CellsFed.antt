@@ -7,14 +7,14 @@ use Rattle.std.proofs.lemmas.List.Concat.{flat_map-cons}
 use Rattle.rp_base.specs.declared.node.Packet.{Packet}
 use Rattle.proto_data.specs.declared.message.Entry.{Entry}
 use Rattle.rp_app.specs.Application.{Application, Delta, after, zeros}
-use Rattle.proto_model.specs.Table.{Key, same_key}
+use Rattle.key_table.specs.Table.{Key, same_key}
 use Rattle.proto_model.specs.Feeds.{packet_at}
 use Rattle.proto_model.specs.Committed.{is_in, is_closed}
 use Rattle.proto_model.specs.SwitchState.{Switch}
 use Rattle.proto_model.specs.World.{Journaled}
 use Rattle.rp_base.specs.declared.legality.Fed.{Fed}
 use Rattle.proto_safety.specs.Books.{In}
-use Rattle.proto_safety.proofs.Tables.{same_key-refl}
+use Rattle.key_table.proofs.Tables.{same_key-refl}
 use Rattle.proto_safety.proofs.FlowAlarm.{in_filter, to_filter, in_append}
 use Rattle.proto_safety.proofs.BookEpochs.{in_middle}
 use Rattle.proto_safety.proofs.SerialLists.{closing_in, epochs_in, journal_in, closed_in, serial_in, front_in}

@@ -11,7 +11,7 @@ use Rattle.proto_data.specs.declared.message.Input.{Input}
 use Rattle.proto_data.specs.declared.message.Carried.{Carried}
 use Rattle.proto_data.specs.declared.terms.Mode.{Mode}
 use Rattle.rp_app.specs.Application.{Application, Delta}
-use Rattle.proto_model.specs.Table.{Key, same_key}
+use Rattle.key_table.specs.Table.{Key, same_key}
 use Rattle.proto_model.specs.Feeds.{Each, Pairwise}
 use Rattle.proto_model.specs.Stands.{entries_of}
 use Rattle.proto_model.specs.Committed.{is_in}
@@ -45,7 +45,7 @@ use Rattle.proto_safety.proofs.SerialLists.{journal_in}
 use Rattle.proto_safety.proofs.StoreBooks.{SentBooks}
 use Rattle.proto_safety.proofs.SwitchSends.{IsRequest}
 use Rattle.proto_safety.proofs.SwitchTable.{msg}
-use Rattle.proto_safety.proofs.Tables.{same_key-refl, same_key-true}
+use Rattle.key_table.proofs.Tables.{same_key-refl, same_key-true}
 use Rattle.proto_safety.proofs.WorldOrigins.{FrameOrigin, NodeOrigins, from_is_switch}
 use Rattle.proto_safety.proofs.WorldPuts.{NumberFrame, is_put, is_snap, Known, InTurn, Awaited}
 use Rattle.proto_safety.proofs.Induction.{Keeps, KeepsGiven, keeps_all, keeps_both, Comes}

@@ -11,7 +11,7 @@ use Rattle.proto_data.specs.declared.message.Entry.{Entry}
 use Rattle.proto_data.specs.declared.message.Carried.{Carried}
 use Rattle.proto_data.specs.declared.terms.Mode.{Mode}
 use Rattle.rp_app.specs.Application.{Application, IsApplication, Delta}
-use Rattle.proto_model.specs.Table.{Key}
+use Rattle.key_table.specs.Table.{Key}
 use Rattle.proto_model.specs.Feeds.{Each, key_at}
 use Rattle.proto_model.specs.Committed.{committed_book, serial_marks, is_closed, is_in, closing_of}
 use Rattle.proto_model.specs.Legal.{StandsIn}
@@ -43,7 +43,7 @@ use Rattle.proto_safety.proofs.ReleasesStep.{Shown, keyless, of_item}
 use Rattle.proto_safety.proofs.SerialLists.{epochs_in, journal_in, closed_in, serial_in, front_in, flat_map_same, filter_no, filter_like}
 use Rattle.proto_safety.proofs.SerialOnce.{serial_place}
 use Rattle.proto_safety.proofs.SwitchCells.{SlotStands}
-use Rattle.proto_safety.proofs.Tables.{same_key-true}
+use Rattle.key_table.proofs.Tables.{same_key-true}
 use Rattle.proto_safety.proofs.WorldOrigins.{NodeOrigins}
 use Rattle.proto_safety.proofs.WorldPuts.{Awaited}
 use Rattle.proto_safety.proofs.WorldShown.{ShownFacts, ShownIn}

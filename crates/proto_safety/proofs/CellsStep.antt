@@ -13,7 +13,7 @@ use Rattle.proto_data.specs.declared.message.Carried.{Carried}
 use Rattle.proto_data.specs.declared.terms.Mode.{Mode}
 use Rattle.rp_app.specs.Application.{Application, Delta}
 use Rattle.proto_data.specs.Carrying.{packet_of, carried_output}
-use Rattle.proto_model.specs.Table.{Key, same_key}
+use Rattle.key_table.specs.Table.{Key, same_key}
 use Rattle.proto_model.specs.Effects.{added, made_output}
 use Rattle.proto_model.specs.Feeds.{Each, packet_at}
 use Rattle.proto_model.specs.Committed.{committed_book, is_closed}
@@ -50,7 +50,7 @@ use Rattle.proto_safety.proofs.SwitchItems.{clean_delta, ItemFacts, own_flow, pu
 use Rattle.proto_safety.proofs.SwitchNodes.{AllAt}
 use Rattle.proto_safety.proofs.SwitchSays.{Tidy, step_says, tidy_lapsed}
 use Rattle.proto_safety.proofs.SwitchTable.{RowTaken, Ready, Timely, msg, fed, at_grant, at_grant_again, direct, mirrored, snapped, late, row_taken, late_item}
-use Rattle.proto_safety.proofs.Tables.{same_key-true, same_some}
+use Rattle.key_table.proofs.Tables.{same_key-true, same_some}
 use Rattle.proto_safety.proofs.Induction.{Comes}
 
 pub no_snap : (frames : List Msg) (key : Key) (e round : ℕ) (cells : List ℕ) → Each (λ (m : Msg). NoSnap m.body) frames → SnapSent frames key e round cells → ⊥

@@ -5,11 +5,11 @@ use Rattle.std.proofs.lemmas.Bool.{and_parts, false≢true}
 use Rattle.std.proofs.lemmas.Grind.{fold-append}
 use Rattle.proto_data.specs.declared.message.Entry.{Entry}
 use Rattle.proto_data.specs.declared.message.Record.{Record}
-use Rattle.proto_model.specs.Table.{Key, same_key, get, put}
+use Rattle.key_table.specs.Table.{Key, same_key, get, put}
 use Rattle.proto_model.specs.Records.{Booked, Records, applied, entry_fits, next_epoch, cells_of, delta_within, fits_at, put_applied}
 use Rattle.rp_app.specs.Application.{Delta, written}
 use Rattle.proto_model.specs.Committed.{closing_of, number_in, greater}
-use Rattle.proto_safety.proofs.Tables.{same_key-true, same_key-refl, get-put_same, get-put_other, same_some}
+use Rattle.key_table.proofs.Tables.{same_key-true, same_key-refl, get-put_same, get-put_other, same_some}
 use Rattle.proto_safety.proofs.EpochNumbers.{greater-None}
 
 pub record Closed (records : Records) (book : List Booked) : Type 0 where

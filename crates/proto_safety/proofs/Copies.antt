@@ -4,7 +4,7 @@ use Rattle.std.specs.Prelude.{filter, not, if◌then◌else◌, option_map, nat_
 use Rattle.std.proofs.lemmas.Bool.{both_ways}
 use Rattle.proto_data.specs.declared.message.Input.{Input}
 use Rattle.rp_app.specs.Application.{Application}
-use Rattle.proto_model.specs.Table.{Key, Table, same_key, get, put, map_values}
+use Rattle.key_table.specs.Table.{Key, Table, same_key, get, put, map_values}
 use Rattle.proto_model.specs.Slot.{Slot, Lease, Idle, Asking, Held, Lapsed, lapsed_slot, extended, lapsed_lease}
 use Rattle.proto_model.specs.SwitchState.{Switch, Copy, is_of, is_covered, lapsed}
 use Rattle.proto_model.specs.SwitchRow.{SwitchRow, NewAsk, AskAgain, Drops, Direct, Mirrored, Granted, Late, Acked, RoundDone, Denied, Busied, Resends, switch_row}
@@ -14,7 +14,7 @@ use Rattle.proto_model.specs.SwitchAlarm.{alarm, Walk, due_copies, other_copies,
 use Rattle.proto_safety.proofs.AlarmInduction.{WalkKeeps, walk_kept}
 use Rattle.proto_model.specs.Feeds.{Each}
 use Rattle.proto_safety.proofs.Lists.{each_append, each_weaker, each_filter, each_if}
-use Rattle.proto_safety.proofs.Tables.{get-put_same, get-put_other, get-map_values, same_key-true, same_key-sym, same_some}
+use Rattle.key_table.proofs.Tables.{get-put_same, get-put_other, get-map_values, same_key-true, same_key-sym, same_some}
 use Rattle.proto_safety.proofs.SwitchFits.{SwitchFits, Prepared, was_held, was_asking, forgot, aged, row_fits, ask_again, drops, direct, mirrored, granted_only, acked, round_done, busied}
 
 abbrev pub is_leased : Lease → Bool

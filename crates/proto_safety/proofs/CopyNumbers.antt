@@ -4,7 +4,7 @@ use Rattle.std.specs.Prelude.{not}
 use Rattle.proto_data.specs.declared.message.Input.{Input}
 use Rattle.proto_data.specs.declared.terms.Terms.{Terms}
 use Rattle.rp_app.specs.Application.{Application}
-use Rattle.proto_model.specs.Table.{Key}
+use Rattle.key_table.specs.Table.{Key}
 use Rattle.proto_model.specs.SwitchState.{Copy, Item, is_of, is_covered}
 use Rattle.proto_model.specs.Feeds.{Each}
 use Rattle.proto_model.specs.World.{World, SwitchNode}
@@ -12,7 +12,7 @@ use Rattle.proto_safety.specs.Books.{In}
 use Rattle.proto_safety.proofs.FlowMoves.{View, Move, elsewhere, lapses, asks, asks_again, takes_grant, forgets, direct, mirrored, acked, idles, resends, keeps_lease, snapped, round_done, sends_chunk, begins_round}
 use Rattle.proto_safety.proofs.FlowAlarm.{in_append, in_filter, to_filter}
 use Rattle.proto_safety.proofs.FlowInduction.{FlowKeeps, Holds, flows_kept}
-use Rattle.proto_safety.proofs.Tables.{same_key-refl}
+use Rattle.key_table.proofs.Tables.{same_key-refl}
 use Rattle.proto_safety.proofs.Lists.{each_at}
 use Rattle.proto_safety.proofs.Induction.{Keeps}
 

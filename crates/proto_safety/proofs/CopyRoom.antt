@@ -7,7 +7,7 @@ use Rattle.rp_base.specs.declared.event.Event.{Event}
 use Rattle.proto_data.specs.declared.message.Input.{Input}
 use Rattle.proto_data.specs.declared.terms.Mode.{Mode}
 use Rattle.rp_app.specs.Application.{Application}
-use Rattle.proto_model.specs.Table.{Key}
+use Rattle.key_table.specs.Table.{Key}
 use Rattle.proto_model.specs.Slot.{Slot, Lease, Round, Idle, Asking, Held, Lapsed}
 use Rattle.proto_model.specs.SwitchOutcomes.{perform}
 use Rattle.proto_model.specs.SwitchAlarm.{Walk, is_due, due_copies, other_copies, ends_soon, snap_slot, strict_slot, held_slot, walked_slot, walked_key, walked_more, walked_slots, walk_order, resent, alarm}

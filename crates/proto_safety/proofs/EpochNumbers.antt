@@ -3,7 +3,7 @@ use Rattle.std.proofs.Common.{◌≡◌, ◌⊎◌, ℕ, ◌+◌, ◌≤◌, ◌
 use Rattle.std.specs.Prelude.{◌==◌, ◌&&◌, if◌then◌else◌, fold, max, nat_le}
 use Rattle.std.proofs.lemmas.Bool.{both_ways, and_parts, leb-true, leb-false}
 use Rattle.proto_data.specs.declared.message.Entry.{Entry}
-use Rattle.proto_model.specs.Table.{Key, same_key}
+use Rattle.key_table.specs.Table.{Key, same_key}
 use Rattle.proto_model.specs.Records.{Booked}
 use Rattle.proto_model.specs.ReplicaRows.{entry_key}
 use Rattle.proto_model.specs.Stands.{entries_of}
@@ -11,7 +11,7 @@ use Rattle.proto_model.specs.Committed.{number_in, greater, closing_of}
 use Rattle.proto_safety.specs.Books.{In}
 use Rattle.proto_safety.specs.Flows.{FlowRecord, FitsFrom, flow_step}
 use Rattle.proto_safety.specs.LeaseLaws.{HasEpoch}
-use Rattle.proto_safety.proofs.Tables.{same_key-true, same_key-refl}
+use Rattle.key_table.proofs.Tables.{same_key-true, same_key-refl}
 use Rattle.proto_safety.proofs.FlowBooks.{Numbered, numbered_grant, numbered_put, numbered_snap}
 use Rattle.proto_safety.proofs.BookEpochs.{Stepped, other, first, next, put, snap, stepped}
 

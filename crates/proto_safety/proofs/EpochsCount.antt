@@ -5,7 +5,7 @@ use Rattle.std.specs.List.{cons_option, range_with_len}
 use Rattle.rp_base.specs.declared.event.Event.{Event}
 use Rattle.proto_data.specs.declared.message.Entry.{Entry}
 use Rattle.rp_app.specs.Application.{Application}
-use Rattle.proto_model.specs.Table.{Key}
+use Rattle.key_table.specs.Table.{Key}
 use Rattle.proto_model.specs.Records.{Booked}
 use Rattle.proto_model.specs.Stands.{entries_of}
 use Rattle.proto_model.specs.Feeds.{Each, Pairwise}
@@ -25,7 +25,7 @@ use Rattle.proto_safety.proofs.LegalNow.{epochs_same, serial_same}
 use Rattle.proto_safety.proofs.Lists.{each_all, each_weaker}
 use Rattle.proto_safety.proofs.SerialLists.{epochs_in, closed_in, no_grant}
 use Rattle.proto_safety.proofs.SerialOnce.{closed_of, pairwise_flat}
-use Rattle.proto_safety.proofs.Tables.{same_key-refl}
+use Rattle.key_table.proofs.Tables.{same_key-refl}
 use Rattle.proto_safety.proofs.WorldFits.{BooksFit, NodeFits, fits_kept, opened_fits}
 use Rattle.proto_safety.proofs.WorldBooks.{books_kept, books_hold}
 use Rattle.proto_safety.proofs.Induction.{keeps_both}

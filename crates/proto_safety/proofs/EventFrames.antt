@@ -13,7 +13,7 @@ use Rattle.proto_data.specs.declared.message.Carried.{Carried}
 use Rattle.rp_app.specs.Application.{Application}
 use Rattle.proto_model.specs.Effects.{switch_moved, replica_moved, packet_fed, frame_passed, master_sent}
 use Rattle.proto_model.specs.Feeds.{Each}
-use Rattle.proto_model.specs.Table.{Key, get}
+use Rattle.key_table.specs.Table.{Key, get}
 use Rattle.proto_model.specs.Committed.{committed_records, committed_book}
 use Rattle.proto_model.specs.Stands.{Stands, entries_of}
 use Rattle.proto_model.specs.SwitchRows.{switch_step}

@@ -4,14 +4,14 @@ use Rattle.std.specs.Prelude.{◌||◌, if◌then◌else◌}
 use Rattle.std.specs.List.{list_any}
 use Rattle.std.proofs.lemmas.Bool.{and_parts, and_from, both_ways, false≢true}
 use Rattle.proto_data.specs.declared.message.Msg.{Msg}
-use Rattle.proto_model.specs.Table.{Key}
+use Rattle.key_table.specs.Table.{Key}
 use Rattle.proto_model.specs.Feeds.{Each}
 use Rattle.proto_safety.specs.Books.{In}
 use Rattle.proto_safety.specs.LeaseLaws.{Request, AskOf, NumberOf, First}
 use Rattle.proto_safety.specs.Firsts.{request_of, same_request, is_made, with_request, with_sent}
 use Rattle.proto_safety.proofs.FlowAlarm.{in_append}
 use Rattle.proto_safety.proofs.FlowBooks.{in_front, in_last}
-use Rattle.proto_safety.proofs.Tables.{same_key-refl, same_key-true}
+use Rattle.key_table.proofs.Tables.{same_key-refl, same_key-true}
 
 same_request-refl : (r : Request) → same_request r r ≡ true
 same_request-refl (AskOf i k) = and_from _ _ (eq-eqb i i refl) (eq-eqb k k refl)

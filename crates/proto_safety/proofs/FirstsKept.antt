@@ -8,7 +8,7 @@ use Rattle.proto_data.specs.declared.message.Input.{Input}
 use Rattle.rp_base.specs.declared.node.Packet.{Packet}
 use Rattle.rp_app.specs.Application.{Application}
 use Rattle.proto_model.specs.Clocks.{clocks, switch_clock, replica_clock}
-use Rattle.proto_model.specs.Table.{Key}
+use Rattle.key_table.specs.Table.{Key}
 use Rattle.proto_model.specs.SwitchState.{open_switch}
 use Rattle.proto_model.specs.SwitchRows.{switch_step}
 use Rattle.proto_model.specs.ReplicaState.{Replica}
@@ -31,7 +31,7 @@ use Rattle.proto_safety.proofs.Chains.{each_in}
 use Rattle.proto_safety.proofs.FlowAlarm.{in_append, to_map}
 use Rattle.proto_safety.proofs.FlowBooks.{in_front}
 use Rattle.proto_safety.proofs.LastBook.{advanced_at}
-use Rattle.proto_safety.proofs.Tables.{same_some}
+use Rattle.key_table.proofs.Tables.{same_some}
 use Rattle.proto_safety.proofs.StoreStands.{book_after}
 use Rattle.proto_safety.proofs.StoreBooks.{SentBooks}
 use Rattle.proto_safety.proofs.BooksStep.{step_sent}

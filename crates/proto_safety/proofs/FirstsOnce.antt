@@ -10,7 +10,7 @@ use Rattle.rp_app.specs.Application.{Application}
 use Rattle.proto_model.specs.Effects.{packet_fed, frame_passed}
 use Rattle.proto_model.specs.Feeds.{Pairwise}
 use Rattle.proto_model.specs.SwitchRows.{switch_step}
-use Rattle.proto_model.specs.Table.{Key}
+use Rattle.key_table.specs.Table.{Key}
 use Rattle.proto_model.specs.World.{World, Setup, SwitchNode, opened}
 use Rattle.proto_model.specs.WorldStep.{Act, Feeds, Delivers, Alarms, act_of, next_event, world_step, world_after}
 use Rattle.proto_safety.specs.Books.{In}

@@ -6,7 +6,7 @@ use Rattle.proto_data.specs.declared.message.Input.{Input}
 use Rattle.proto_data.specs.declared.terms.Terms.{Terms}
 use Rattle.proto_data.specs.declared.terms.Mode.{Mode}
 use Rattle.rp_app.specs.Application.{Application}
-use Rattle.proto_model.specs.Table.{Key, same_key, get, put}
+use Rattle.key_table.specs.Table.{Key, same_key, get, put}
 use Rattle.proto_model.specs.Slot.{Slot, Held, Round, lapsed_slot}
 use Rattle.proto_model.specs.SwitchState.{Switch, Copy, Item, Begun, slot_at, is_of, lapsed}
 use Rattle.proto_model.specs.SwitchAlarm.{Walk, alarm, due_copies, other_copies, is_due, walk_order, empty_put, chunk_sent}
@@ -18,7 +18,7 @@ use Rattle.proto_safety.proofs.AlarmInduction.{WalkKeeps, walk_kept, round_slot,
 use Rattle.proto_safety.proofs.SwitchTable.{row_taken}
 use Rattle.proto_safety.proofs.FlowMoves.{View, view, Move, Moves, none, more, lapses, resends, keeps_lease, sends_chunk, begins_round, SameCopy, SameCopies, chunk_slot, same_view, one_more_same, one_more_other, none_of}
 use Rattle.proto_safety.proofs.FlowSteps.{of_flow, row_moves}
-use Rattle.proto_safety.proofs.Tables.{get-put_same, get-put_other, get-map_values, same_key-true}
+use Rattle.key_table.proofs.Tables.{get-put_same, get-put_other, get-map_values, same_key-true}
 
 -- ---- members of lists
 

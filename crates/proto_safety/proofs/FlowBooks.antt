@@ -4,7 +4,7 @@ use Rattle.std.specs.Prelude.{if◌then◌else◌, option_map, fold}
 use Rattle.proto_data.specs.declared.message.Entry.{Entry}
 use Rattle.proto_data.specs.declared.message.Record.{Record}
 use Rattle.rp_app.specs.Application.{Delta, written}
-use Rattle.proto_model.specs.Table.{Key, same_key, get, put}
+use Rattle.key_table.specs.Table.{Key, same_key, get, put}
 use Rattle.proto_model.specs.Records.{Records, Booked, applied, put_applied, snap_applied, cells_of}
 use Rattle.proto_model.specs.ReplicaState.{Replica, record_at}
 use Rattle.proto_model.specs.ReplicaRows.{entry_key}
@@ -12,7 +12,7 @@ use Rattle.proto_model.specs.Stands.{Stands, entries_of}
 use Rattle.proto_model.specs.Committed.{number_in}
 use Rattle.proto_safety.specs.Books.{In, IsPrefix}
 use Rattle.proto_safety.specs.Flows.{FlowRecord, flow_in, flow_cells, flow_step, flow_from, flow_of, Follows, FitsFrom}
-use Rattle.proto_safety.proofs.Tables.{get-put_same, get-put_other, same_key-true}
+use Rattle.key_table.proofs.Tables.{get-put_same, get-put_other, same_key-true}
 
 -- what the table says of a flow
 abbrev pub flow_at : Records → Key → Option FlowRecord

@@ -7,7 +7,7 @@ use Rattle.proto_data.specs.declared.terms.Terms.{Terms}
 use Rattle.rp_base.specs.declared.event.Event.{Event}
 use Rattle.rp_base.specs.declared.node.Packet.{Packet}
 use Rattle.rp_app.specs.Application.{Application}
-use Rattle.proto_model.specs.Table.{Key}
+use Rattle.key_table.specs.Table.{Key}
 use Rattle.proto_model.specs.Feeds.{Each}
 use Rattle.proto_model.specs.Slot.{Slot, Lease, Idle, Asking, Held, Lapsed, lapsed_slot, extended}
 use Rattle.proto_model.specs.SwitchState.{Switch, Item, slot_at, lapsed}
@@ -15,7 +15,7 @@ use Rattle.proto_model.specs.SwitchOutcomes.{acked_lease}
 use Rattle.proto_model.specs.World.{World, Setup, SwitchNode, opened}
 use Rattle.proto_model.specs.WorldStep.{world_after}
 use Rattle.proto_safety.proofs.Copies.{is_leased}
-use Rattle.proto_safety.proofs.Tables.{get-map_values}
+use Rattle.key_table.proofs.Tables.{get-map_values}
 use Rattle.proto_safety.proofs.SwitchTable.{Ready, fed, at_grant, at_grant_again}
 use Rattle.proto_safety.proofs.FlowMoves.{View, Move, elsewhere, lapses, asks, asks_again, takes_grant, forgets, direct, mirrored, acked, idles, resends, keeps_lease, snapped, round_done, sends_chunk, begins_round}
 use Rattle.proto_safety.proofs.FlowInduction.{FlowKeeps, Holds, flows_hold, flows_kept}

@@ -7,7 +7,7 @@ use Rattle.std.proofs.lemmas.List.Concat.{flat_map-cons}
 use Rattle.std.proofs.lemmas.List.Elements.{filter-append}
 use Rattle.proto_data.specs.declared.message.Entry.{Entry}
 use Rattle.rp_app.specs.Application.{Application, Delta, written, zeros}
-use Rattle.proto_model.specs.Table.{Key, same_key}
+use Rattle.key_table.specs.Table.{Key, same_key}
 use Rattle.proto_model.specs.Feeds.{Each}
 use Rattle.proto_model.specs.Committed.{is_in, is_closed}
 use Rattle.proto_model.specs.ReplicaRows.{entry_key}
@@ -16,7 +16,7 @@ use Rattle.rp_base.specs.declared.legality.Fed.{Fed}
 use Rattle.proto_safety.specs.Books.{In}
 use Rattle.proto_safety.specs.Flows.{FlowRecord, FitsFrom, flow_step, flow_of}
 use Rattle.proto_safety.specs.LeaseLaws.{HasEpoch}
-use Rattle.proto_safety.proofs.Tables.{same_key-refl, same_key-true}
+use Rattle.key_table.proofs.Tables.{same_key-refl, same_key-true}
 use Rattle.proto_safety.proofs.Chains.{each_in}
 use Rattle.proto_safety.proofs.BookEpochs.{Stepped, other, first, next, put, snap, stepped, fits_parts}
 use Rattle.proto_safety.proofs.FlowAlarm.{in_filter, in_append}

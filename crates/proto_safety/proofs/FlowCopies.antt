@@ -6,7 +6,7 @@ use Rattle.proto_data.specs.declared.terms.Mode.{Mode}
 use Rattle.proto_data.specs.declared.message.Input.{Input}
 use Rattle.proto_data.specs.declared.terms.Terms.{Terms}
 use Rattle.rp_app.specs.Application.{Application}
-use Rattle.proto_model.specs.Table.{Key, same_key}
+use Rattle.key_table.specs.Table.{Key, same_key}
 use Rattle.proto_model.specs.Slot.{epoch_of, Slot, Lease, Idle, Asking, Held, Lapsed, lapsed_slot}
 use Rattle.proto_model.specs.SwitchState.{slot_at, Copy, Item, is_of, is_covered}
 use Rattle.proto_safety.specs.Books.{In}
@@ -20,7 +20,7 @@ use Rattle.proto_model.specs.World.{Setup, SwitchNode, opened}
 use Rattle.proto_model.specs.WorldStep.{world_after}
 use Rattle.proto_safety.specs.CellLaws.{CopiesHaveLast, CopiesHaveLastAt}
 use Rattle.proto_safety.proofs.Lists.{each_weaker, nobody}
-use Rattle.proto_safety.proofs.Tables.{same_key-refl}
+use Rattle.key_table.proofs.Tables.{same_key-refl}
 
 -- a copy with the slot's last number
 pub record LastCopied (slot : Slot) (cs : List Copy) : Type 0 where

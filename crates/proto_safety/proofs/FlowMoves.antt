@@ -14,7 +14,7 @@ use Rattle.rp_base.specs.declared.node.Output.{Output}
 use Rattle.proto_data.specs.declared.message.Carried.{Carried}
 use Rattle.rp_app.specs.Application.{Application, Delta, written}
 use Rattle.proto_data.specs.Carrying.{packet_of}
-use Rattle.proto_model.specs.Table.{Key, same_key}
+use Rattle.key_table.specs.Table.{Key, same_key}
 use Rattle.proto_model.specs.Ring.{remember}
 use Rattle.proto_safety.proofs.AlarmInduction.{round_slot, new_round}
 use Rattle.proto_model.specs.Slot.{chunk_count, Slot, Round, Idle, Asking, Held, emptied, is_young, lapsed_slot, extended, acknowledged, may, updated}
@@ -23,7 +23,7 @@ use Rattle.proto_model.specs.SwitchRow.{is_clean, granted, without_asked, has_ep
 use Rattle.proto_model.specs.SwitchOutcomes.{item_of, remember_output, acked_lease, forget_load}
 use Rattle.proto_safety.specs.Books.{In}
 use Rattle.proto_safety.proofs.SwitchTable.{msg, Ready, fed, at_grant, at_grant_again}
-use Rattle.proto_safety.proofs.Tables.{same_key-true}
+use Rattle.key_table.proofs.Tables.{same_key-true}
 
 -- what a switch keeps of one flow, and its count of nonces
 pub record View : Type 0 where

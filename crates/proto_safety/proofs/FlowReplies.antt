@@ -10,7 +10,7 @@ use Rattle.proto_data.specs.declared.message.Input.{Input}
 use Rattle.proto_data.specs.declared.terms.Terms.{Terms}
 use Rattle.proto_data.specs.declared.message.Carried.{Carried}
 use Rattle.rp_app.specs.Application.{Application}
-use Rattle.proto_model.specs.Table.{Key}
+use Rattle.key_table.specs.Table.{Key}
 use Rattle.proto_model.specs.Slot.{Slot, Lease, Idle, Asking, Held, Lapsed, lapsed_slot, lapsed_lease}
 use Rattle.proto_model.specs.SwitchState.{Copy, Item, is_covered}
 use Rattle.proto_model.specs.SwitchRow.{has_epoch}
@@ -22,7 +22,7 @@ use Rattle.proto_safety.proofs.FlowBooks.{in_prefix, granted_in, numbered_grant}
 use Rattle.proto_safety.proofs.FlowMoves.{View, Move, elsewhere, lapses, asks, asks_again, takes_grant, forgets, direct, mirrored, acked, idles, resends, keeps_lease, snapped, round_done, sends_chunk, begins_round}
 use Rattle.proto_safety.proofs.FlowAlarm.{to_filter}
 use Rattle.proto_safety.proofs.FlowCopies.{LastCopied, CopiesAt, CopiesStand, copies_move, not_strict, copies_of_slot}
-use Rattle.proto_safety.proofs.Tables.{same_key-refl}
+use Rattle.key_table.proofs.Tables.{same_key-refl}
 use Rattle.proto_safety.proofs.SwitchTable.{msg}
 use Rattle.proto_safety.proofs.Lists.{nobody}
 

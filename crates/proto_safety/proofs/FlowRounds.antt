@@ -8,7 +8,7 @@ use Rattle.proto_data.specs.declared.message.Input.{Input}
 use Rattle.proto_data.specs.declared.terms.Terms.{Terms}
 use Rattle.rp_base.specs.declared.event.Event.{Event}
 use Rattle.rp_app.specs.Application.{Application}
-use Rattle.proto_model.specs.Table.{Key}
+use Rattle.key_table.specs.Table.{Key}
 use Rattle.proto_model.specs.Slot.{Slot, Lease, Round, Idle, Asking, Held, Lapsed, lapsed_slot, lapsed_lease, extended}
 use Rattle.proto_model.specs.SwitchState.{Item, slot_at}
 use Rattle.proto_model.specs.SwitchRow.{has_epoch}
@@ -24,7 +24,7 @@ use Rattle.proto_safety.proofs.FlowAlarm.{step_moves}
 use Rattle.proto_safety.proofs.FlowInduction.{step_same}
 use Rattle.proto_safety.proofs.FlowCopies.{not_strict}
 use Rattle.proto_safety.proofs.FlowReplies.{Told, granted_rests, acked_told}
-use Rattle.proto_safety.proofs.Tables.{same_key-refl}
+use Rattle.key_table.proofs.Tables.{same_key-refl}
 use Rattle.proto_safety.proofs.SwitchNodes.{AllAt, all_set, all_changed, all_advanced, all_opened, all_weaker}
 use Rattle.proto_safety.proofs.WorldFlows.{Replied, replied_kept, told_input}
 use Rattle.proto_safety.proofs.WorldFits.{opened_fits}

@@ -9,7 +9,7 @@ use Rattle.rp_base.specs.declared.node.Packet.{Packet}
 use Rattle.rp_base.specs.declared.node.Output.{Output}
 use Rattle.proto_data.specs.declared.message.Carried.{Carried}
 use Rattle.rp_app.specs.Application.{Application, Delta, written}
-use Rattle.proto_model.specs.Table.{Key, same_key}
+use Rattle.key_table.specs.Table.{Key, same_key}
 use Rattle.proto_model.specs.Ring.{remember}
 use Rattle.proto_model.specs.Slot.{Round, may, updated, extended, acknowledged, fresh_slot, is_young, Slot, Idle, Asking, Held, emptied}
 use Rattle.proto_model.specs.SwitchState.{Switch, Copy, Item, slot_at, with_slot, without_copies, has_copies, is_of, is_covered, greatest_first}
@@ -19,7 +19,7 @@ use Rattle.proto_safety.proofs.SwitchTable.{stale, keyless, no_room, adopted, re
 use Rattle.proto_safety.proofs.FlowMoves.{view, none, more, asks, asks_again, takes_grant, forgets, idles, same_view, Steps, untouched, ready_moves, ready_held, ready_brings, Brings, one_more_same, one_more_other, none_given_up, none_of, filter_comm, covered_of, covered_elsewhere}
 use Rattle.proto_safety.proofs.FlowMoves.{snapped as moves_snapped, round_done as moves_round_done, direct as moves_direct, mirrored as moves_mirrored, acked as moves_acked}
 use Rattle.proto_safety.proofs.OtherFlows.{given_up_elsewhere}
-use Rattle.proto_safety.proofs.Tables.{get-put_same, get-put_other, same_key-true, same_key-refl}
+use Rattle.key_table.proofs.Tables.{get-put_same, get-put_other, same_key-true, same_key-refl}
 
 -- the items of one flow
 abbrev pub of_flow : Key → Option Item → List Item

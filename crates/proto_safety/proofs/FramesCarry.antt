@@ -12,7 +12,7 @@ use Rattle.proto_data.specs.declared.message.Input.{Input}
 use Rattle.rp_base.specs.declared.event.Event.{Event}
 use Rattle.rp_app.specs.Application.{Application}
 use Rattle.proto_data.specs.Carrying.{packet_of}
-use Rattle.proto_model.specs.Table.{Key}
+use Rattle.key_table.specs.Table.{Key}
 use Rattle.proto_model.specs.Feeds.{Each, packet_at}
 use Rattle.proto_safety.specs.Loads.{OnLoad, OnPacket, WasFed}
 use Rattle.proto_model.specs.SwitchRows.{switch_step}

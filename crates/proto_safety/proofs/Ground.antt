@@ -5,7 +5,7 @@ use Rattle.proto_data.specs.declared.message.Entry.{Entry}
 use Rattle.proto_data.specs.declared.message.Input.{Input}
 use Rattle.proto_data.specs.declared.terms.Mode.{Mode}
 use Rattle.rp_app.specs.Application.{Application}
-use Rattle.proto_model.specs.Table.{Key}
+use Rattle.key_table.specs.Table.{Key}
 use Rattle.proto_model.specs.Slot.{Slot, Lease, Round, Idle, Asking, Held, Lapsed, epoch_of}
 use Rattle.proto_model.specs.SwitchState.{Copy, slot_at}
 use Rattle.proto_model.specs.SwitchRows.{switch_step}
@@ -19,7 +19,7 @@ use Rattle.proto_safety.proofs.FlowRounds.{NodeRounds, rounds_kept}
 use Rattle.proto_safety.proofs.RoundNumbers.{AllNumbered, numbered_kept, numbered_at}
 use Rattle.proto_safety.proofs.LastBook.{Found, find_last, last_book, none_book, IsLast}
 use Rattle.proto_safety.proofs.Lists.{each_at}
-use Rattle.proto_safety.proofs.Tables.{same_some}
+use Rattle.key_table.proofs.Tables.{same_some}
 use Rattle.proto_safety.proofs.SwitchNodes.{AllAt, all_set, all_changed, all_advanced}
 use Rattle.proto_safety.proofs.FlowInduction.{step_same}
 use Rattle.proto_safety.proofs.WorldFits.{NodeFits}

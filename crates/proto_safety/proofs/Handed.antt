@@ -8,7 +8,7 @@ use Rattle.proto_data.specs.declared.message.Body.{Body}
 use Rattle.proto_data.specs.declared.message.Entry.{Entry}
 use Rattle.proto_data.specs.declared.message.Record.{Record}
 use Rattle.proto_data.specs.declared.message.Carried.{Carried}
-use Rattle.proto_model.specs.Table.{Key}
+use Rattle.key_table.specs.Table.{Key}
 use Rattle.proto_model.specs.ReplicaState.{Replica, record_at}
 use Rattle.proto_model.specs.ReplicaRows.{StoreRow, switch_of, is_later}
 use Rattle.proto_model.specs.World.{World, ReplicaNode}

@@ -8,7 +8,7 @@ use Rattle.proto_data.specs.declared.message.Entry.{Entry}
 use Rattle.proto_data.specs.declared.message.Input.{Input}
 use Rattle.proto_data.specs.declared.terms.Mode.{Mode}
 use Rattle.rp_app.specs.Application.{Application, IsApplication}
-use Rattle.proto_model.specs.Table.{Key}
+use Rattle.key_table.specs.Table.{Key}
 use Rattle.proto_model.specs.Legal.{IsLegal}
 use Rattle.proto_model.specs.Stands.{entries_of}
 use Rattle.proto_model.specs.Slot.{Slot}

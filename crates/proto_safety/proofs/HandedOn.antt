@@ -2,7 +2,7 @@
 use Rattle.std.proofs.Common.{◌≡◌, ℕ, ◌+◌, ◌≤◌, List, Some, arith, sym, ap, ◌∙◌, inl, inr, slice_get}
 use Rattle.proto_data.specs.declared.message.Entry.{Entry}
 use Rattle.proto_model.specs.Stands.{entries_of}
-use Rattle.proto_model.specs.Table.{Key}
+use Rattle.key_table.specs.Table.{Key}
 use Rattle.proto_model.specs.World.{World, SwitchNode, ReplicaNode}
 use Rattle.proto_safety.specs.LeaseLaws.{First}
 use Rattle.proto_safety.proofs.Handed.{RunOut, Passed, HandedHold}

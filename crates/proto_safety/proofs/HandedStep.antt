@@ -11,7 +11,7 @@ use Rattle.proto_data.specs.declared.message.Input.{Input}
 use Rattle.proto_data.specs.declared.message.Carried.{Carried}
 use Rattle.proto_data.specs.declared.message.Config.{Config}
 use Rattle.rp_app.specs.Application.{Application}
-use Rattle.proto_model.specs.Table.{Key, get}
+use Rattle.key_table.specs.Table.{Key, get}
 use Rattle.proto_model.specs.Records.{Booked, records_of}
 use Rattle.proto_model.specs.ReplicaState.{record_at}
 use Rattle.proto_model.specs.ReplicaRows.{store_step, store_row, entry_key, StoreRow}
@@ -35,7 +35,7 @@ use Rattle.proto_safety.proofs.Lists.{each_at, none_before}
 use Rattle.proto_safety.proofs.Places.{at_set}
 use Rattle.proto_safety.proofs.StoreBooks.{Has, row_applies, by_forward}
 use Rattle.proto_safety.proofs.StoreStands.{book_after}
-use Rattle.proto_safety.proofs.Tables.{same_key-true}
+use Rattle.key_table.proofs.Tables.{same_key-true}
 use Rattle.proto_safety.proofs.Timed.{Timed}
 use Rattle.proto_safety.proofs.WorldBooks.{known_input}
 use Rattle.proto_safety.proofs.WorldFirsts.{FirstsHold}

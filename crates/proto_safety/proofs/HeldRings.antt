@@ -9,6 +9,7 @@ use Rattle.proto_data.specs.declared.message.Carried.{Carried}
 use Rattle.rp_app.specs.Application.{Application}
 use Rattle.proto_data.specs.Carrying.{output_of}
 use Rattle.proto_model.specs.Ring.{Ring, holds, remembers, remember, forget, ring_room}
+use Rattle.proto_data.specs.declared.limits.TheConstants.{MARKS}
 use Rattle.proto_model.specs.Slot.{Slot, epoch_of, lapsed_slot}
 use Rattle.proto_model.specs.Straight.{enters_held, from_switch}
 use Rattle.proto_model.specs.SwitchOutcomes.{perform}
@@ -16,13 +17,13 @@ use Rattle.proto_model.specs.SwitchAlarm.{Walk, walk_order}
 use Rattle.proto_model.specs.SwitchRow.{SwitchRow, NewAsk, AskAgain, Drops, Direct, Mirrored, Granted, Late, Acked, RoundDone, Denied, Busied, Resends, switch_row}
 use Rattle.proto_model.specs.SwitchRows.{switch_step}
 use Rattle.proto_model.specs.SwitchState.{Switch, SwitchDid, slot_at, lapsed}
-use Rattle.proto_model.specs.Table.{Key, Table, same_key, get, put, map_values}
+use Rattle.key_table.specs.Table.{Key, Table, same_key, get, put, map_values}
 use Rattle.proto_safety.proofs.AlarmInduction.{WalkKeeps, walk_kept}
 use Rattle.proto_safety.proofs.Lists.{length_map}
 use Rattle.proto_safety.proofs.SlotCells.{mapped}
 use Rattle.proto_safety.proofs.SwitchMarks.{ready_marks}
 use Rattle.proto_safety.proofs.SwitchTable.{RowTaken, ask_again, no_copy_room, too_old, direct, snapped, mirrored, granted_only, acked, round_done, busied, row_taken}
-use Rattle.proto_safety.proofs.Tables.{get-put_same, get-put_other, get-map_values, same_key-true, same_key-refl, same_some}
+use Rattle.key_table.proofs.Tables.{get-put_same, get-put_other, get-map_values, same_key-true, same_key-refl, same_some}
 
 -- ---- a mark in a ring
 
@@ -49,7 +50,7 @@ waits_longer le h = record { front = h.front; behind = h.behind; is = h.is; few 
 
 -- the mark that came last
 pub waits_last : (ring : Ring) (m : ℕ) → Waits (remember ring m) m 0
-waits_last ring m = room_case (nat_lt (length ring) ring_room)
+waits_last ring m = room_case (nat_lt (length ring) MARKS)
   where
     room_case : (b : Bool) → Waits (if b then ring ++ Some m ∷ [] else drop 1 ring ++ Some m ∷ []) m 0
     room_case true = record { front = ring; behind = []; is = refl; few = omega arith }
@@ -66,13 +67,13 @@ waits_pushed ring m n k lt h = subst (λ r. Waits (remember r n) m (k + 1)) (sym
     room_case x front true = record { front = x ∷ front; behind = h.behind ++ Some n ∷ []; is = append_assoc (x ∷ front) (Some m ∷ h.behind) (Some n ∷ []); few = longer }
     room_case x front false = record { front = front; behind = h.behind ++ Some n ∷ []; is = append_assoc front (Some m ∷ h.behind) (Some n ∷ []); few = longer }
 
-    none_case : (b : Bool) → nat_lt (length (Some m ∷ h.behind)) ring_room ≡ b → Waits (if b then (Some m ∷ h.behind) ++ Some n ∷ [] else drop 1 (Some m ∷ h.behind) ++ Some n ∷ []) m (k + 1)
+    none_case : (b : Bool) → nat_lt (length (Some m ∷ h.behind)) MARKS ≡ b → Waits (if b then (Some m ∷ h.behind) ++ Some n ∷ [] else drop 1 (Some m ∷ h.behind) ++ Some n ∷ []) m (k + 1)
     none_case true room = record { front = []; behind = h.behind ++ Some n ∷ []; is = refl; few = longer }
     none_case false full = absurd (both_ways _ full (lt-ltb (length (Some m ∷ h.behind)) 64 (omega (arith, h.few, lt))))
 
     front_case : (front : Ring) → Waits (remember (front ++ Some m ∷ h.behind) n) m (k + 1)
-    front_case [] = none_case (nat_lt (length (Some m ∷ h.behind)) ring_room) refl
-    front_case (x ∷ front) = room_case x front (nat_lt (length (x ∷ front ++ Some m ∷ h.behind)) ring_room)
+    front_case [] = none_case (nat_lt (length (Some m ∷ h.behind)) MARKS) refl
+    front_case (x ∷ front) = room_case x front (nat_lt (length (x ∷ front ++ Some m ∷ h.behind)) MARKS)
 
 -- another mark is forgotten
 pub waits_forgotten : (ring : Ring) (m n k : ℕ) → (m == n) ≡ false → Waits ring m k → Waits (forget ring n) m k

@@ -10,7 +10,7 @@ use Rattle.std.proofs.Math.Seq.{take-append_seam}
 use Rattle.std.proofs.lemmas.Grind.{fold-append}
 use Rattle.proto_data.specs.declared.message.Entry.{Entry}
 use Rattle.rp_app.specs.Application.{Application, after, zeros}
-use Rattle.proto_model.specs.Table.{Key, same_key}
+use Rattle.key_table.specs.Table.{Key, same_key}
 use Rattle.proto_model.specs.Feeds.{Each, packets_at}
 use Rattle.proto_model.specs.Committed.{is_in, journal, committed_book}
 use Rattle.proto_model.specs.Kept.{is_round, items_before, kept_at, marks_in, kept_marks, after_marks, base}
@@ -25,7 +25,7 @@ use Rattle.proto_safety.proofs.BookEpochs.{Stepped, other, first, next, put, sna
 use Rattle.proto_safety.proofs.CellFacts.{closing_entries}
 use Rattle.proto_safety.proofs.FlowAlarm.{in_append, in_filter}
 use Rattle.proto_safety.proofs.FlowSerial.{ran-append}
-use Rattle.proto_safety.proofs.Tables.{same_key-refl}
+use Rattle.key_table.proofs.Tables.{same_key-refl}
 use Rattle.proto_safety.proofs.Chains.{each_in}
 use Rattle.proto_safety.proofs.SerialFronts.{earlier_closing, closing_stays}
 use Rattle.proto_safety.proofs.SerialLists.{closing_in, same_closing, no_number, closes}

@@ -4,7 +4,7 @@ use Rattle.proto_data.specs.declared.terms.Mode.{Mode}
 use Rattle.proto_data.specs.declared.message.Entry.{Entry}
 use Rattle.rp_base.specs.declared.event.Event.{Event}
 use Rattle.rp_app.specs.Application.{Application}
-use Rattle.proto_model.specs.Table.{Key}
+use Rattle.key_table.specs.Table.{Key}
 use Rattle.proto_model.specs.Slot.{Slot, Lease, Round, Idle, Asking, Held, Lapsed, epoch_of}
 use Rattle.proto_model.specs.SwitchState.{Copy, slot_at}
 use Rattle.proto_model.specs.Committed.{committed_book}

@@ -7,7 +7,7 @@ use Rattle.std.proofs.lemmas.List.{map-append}
 use Rattle.proto_data.specs.declared.message.Entry.{Entry}
 use Rattle.proto_data.specs.declared.message.Record.{Record}
 use Rattle.rp_app.specs.Application.{Application, zeros}
-use Rattle.proto_model.specs.Table.{Key, Table, same_key, get}
+use Rattle.key_table.specs.Table.{Key, Table, same_key, get}
 use Rattle.proto_model.specs.Feeds.{Each, Pairwise, fed_at, packet_at, key_at}
 use Rattle.proto_model.specs.Records.{Booked, Records, applied, put_applied, snap_applied}
 use Rattle.proto_model.specs.Committed.{committed_flow, committed_flows, closing_of, epochs_of, epoch_granted, is_in, is_closed, committed_book, committed_records, serial, serial_marks}
@@ -29,7 +29,7 @@ use Rattle.proto_safety.proofs.ReleasesStep.{Shown, keyless, of_item}
 use Rattle.proto_safety.proofs.SerialLists.{epochs_in, journal_in, closed_in, serial_in, flat_map_same}
 use Rattle.proto_safety.proofs.SerialOnce.{OtherItem, PlaceIn, serial_of, serial_once, serial_place, pairwise_flat}
 use Rattle.proto_safety.proofs.TableKeys.{KeysDiffer, differ_put, member_found}
-use Rattle.proto_safety.proofs.Tables.{same_key-refl, same_key-true}
+use Rattle.key_table.proofs.Tables.{same_key-refl, same_key-true}
 use Rattle.proto_safety.proofs.WorldOrder.{Placed, Ordered, unkeyed, placed, OrderIn}
 use Rattle.proto_safety.proofs.WorldShown.{ShownIn}
 use Rattle.proto_safety.proofs.Lists.{among_in, each_all}

@@ -12,7 +12,7 @@ use Rattle.proto_safety.proofs.WorldSerial.{Onward, serial_kept}
 use Rattle.proto_safety.proofs.SerialLists.{serial_in}
 use Rattle.proto_safety.proofs.Places.{prefix_same}
 use Rattle.proto_model.specs.Stands.{entries_of}
-use Rattle.proto_model.specs.Table.{Key}
+use Rattle.key_table.specs.Table.{Key}
 use Rattle.proto_data.specs.declared.message.Entry.{Entry}
 use Rattle.proto_safety.specs.Flows.{flow_of}
 use Rattle.proto_safety.proofs.FlowCells.{CellsOf}

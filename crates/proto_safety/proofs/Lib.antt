@@ -12,7 +12,6 @@ pub mod WorldStands
 pub mod Clocks
 pub mod FedMarks
 pub mod SwitchFits
-pub mod Tables
 pub mod AlarmInduction
 pub mod Copies
 pub mod OtherFlows

@@ -9,7 +9,7 @@ use Rattle.proto_data.specs.declared.message.Entry.{Entry}
 use Rattle.proto_data.specs.declared.message.Msg.{Msg}
 use Rattle.proto_data.specs.declared.message.Record.{Record}
 use Rattle.rp_app.specs.Application.{Application, after, zeros}
-use Rattle.proto_model.specs.Table.{Key, get}
+use Rattle.key_table.specs.Table.{Key, get}
 use Rattle.proto_model.specs.Committed.{is_in, journal, committed_book, committed_records, committed_cells, cells_at}
 use Rattle.proto_model.specs.Feeds.{Pairwise, fed_at, packet_at, packets_at, key_at}
 use Rattle.proto_model.specs.Kept.{base, after_marks, marks_in}
@@ -36,7 +36,7 @@ use Rattle.proto_safety.proofs.SnapRounds.{snap_round}
 use Rattle.proto_safety.proofs.SnapRun.{Ended, snap_facts}
 use Rattle.proto_safety.proofs.SnapShown.{Shows, ItemTurn}
 use Rattle.proto_safety.proofs.SnapSlots.{SnapSays}
-use Rattle.proto_safety.proofs.Tables.{same_key-true, same_key-refl, same_some}
+use Rattle.key_table.proofs.Tables.{same_key-true, same_key-refl, same_some}
 use Rattle.proto_safety.proofs.WorldSnaps.{SnapFacts, Snaps}
 
 -- ---- places

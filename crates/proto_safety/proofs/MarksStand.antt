@@ -3,7 +3,7 @@ use Rattle.std.proofs.Common.{◌≡◌, ◌≢◌, ◌⊎◌, inl, inr, ℕ, �
 use Rattle.std.specs.Prelude.{◌==◌, flat_map}
 use Rattle.rp_base.specs.declared.event.Event.{Event}
 use Rattle.rp_app.specs.Application.{Application, IsApplication}
-use Rattle.proto_model.specs.Table.{Key, Table}
+use Rattle.key_table.specs.Table.{Key, Table}
 use Rattle.proto_model.specs.Ring.{Ring}
 use Rattle.proto_model.specs.Slot.{Slot}
 use Rattle.proto_model.specs.Feeds.{Each, Pairwise}

@@ -3,7 +3,7 @@ use Rattle.std.proofs.Common.{◌≡◌, ◌⊎◌, inl, inr, ℕ, ◌+◌, ◌�
 use Rattle.std.specs.Prelude.{nat_le}
 use Rattle.std.proofs.lemmas.Bool.{both_ways, leb-true, leb-false}
 use Rattle.proto_data.specs.declared.message.Entry.{Entry}
-use Rattle.proto_model.specs.Table.{Key}
+use Rattle.key_table.specs.Table.{Key}
 use Rattle.proto_safety.specs.Books.{In}
 use Rattle.proto_safety.specs.Flows.{FlowRecord, FitsFrom, flow_step}
 use Rattle.proto_safety.specs.LeaseLaws.{HasEpoch}

@@ -5,7 +5,7 @@ use Rattle.proto_data.specs.declared.terms.Mode.{Mode}
 use Rattle.proto_data.specs.declared.terms.Terms.{Terms}
 use Rattle.rp_base.specs.declared.event.Event.{Event}
 use Rattle.rp_app.specs.Application.{Application}
-use Rattle.proto_model.specs.Table.{Key}
+use Rattle.key_table.specs.Table.{Key}
 use Rattle.proto_model.specs.SwitchState.{Item, is_of}
 use Rattle.proto_model.specs.Feeds.{Each}
 use Rattle.proto_model.specs.World.{World, Setup, SwitchNode, opened}
@@ -16,7 +16,7 @@ use Rattle.proto_safety.proofs.FlowCopies.{not_strict}
 use Rattle.proto_safety.proofs.FlowMoves.{View, Move, elsewhere, lapses, asks, asks_again, takes_grant, forgets, direct, mirrored, acked, idles, resends, keeps_lease, snapped, round_done, sends_chunk, begins_round}
 use Rattle.proto_safety.proofs.FlowInduction.{FlowKeeps, Holds, flows_kept, flows_hold}
 use Rattle.proto_safety.proofs.Lists.{each_at, nobody}
-use Rattle.proto_safety.proofs.Tables.{same_key-refl}
+use Rattle.key_table.proofs.Tables.{same_key-refl}
 use Rattle.proto_safety.proofs.Induction.{Keeps}
 
 abbrev pub Copyless : ℕ → Terms → Key → View → Type 0

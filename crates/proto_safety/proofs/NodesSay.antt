@@ -10,7 +10,7 @@ use Rattle.proto_model.specs.Records.{Booked}
 use Rattle.proto_model.specs.ReplicaState.{Replica, StoreStep}
 use Rattle.proto_model.specs.ReplicaRows.{store_step}
 use Rattle.proto_model.specs.Stands.{Stands, entries_of}
-use Rattle.proto_model.specs.Table.{Key}
+use Rattle.key_table.specs.Table.{Key}
 use Rattle.proto_model.specs.SwitchRows.{switch_step}
 use Rattle.proto_model.specs.World.{Setup, SwitchNode, ReplicaNode, opened}
 use Rattle.proto_model.specs.WorldStep.{world_after}

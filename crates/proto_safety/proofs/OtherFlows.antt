@@ -1,11 +1,11 @@
 -- A row of a switch acts on one flow: every other flow keeps its slot and its copies. So a fact of each flow is proved for the row's own flow alone.
 use Rattle.std.proofs.Common.{◌≡◌, ℕ, List, [], ◌∷◌, refl, ap, true, false, Bool}
 use Rattle.std.specs.Prelude.{filter, not, if◌then◌else◌}
-use Rattle.proto_model.specs.Table.{Key, same_key, get}
+use Rattle.key_table.specs.Table.{Key, same_key, get}
 use Rattle.proto_model.specs.SwitchState.{Switch, Copy, is_of}
 use Rattle.proto_model.specs.SwitchRow.{SwitchRow, NewAsk, AskAgain, Drops, Direct, Mirrored, Granted, Late, Acked, RoundDone, Denied, Busied, Resends}
 use Rattle.proto_model.specs.SwitchOutcomes.{perform}
-use Rattle.proto_safety.proofs.Tables.{get-put_other, same_key-true}
+use Rattle.key_table.proofs.Tables.{get-put_other, same_key-true}
 
 -- a row that acts on another flow than k
 abbrev pub IsElsewhere : Key → SwitchRow → Type 0

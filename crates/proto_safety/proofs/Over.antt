@@ -1,7 +1,7 @@
 -- No lease is live, and no young Ask is answered, where a running book has a later epoch: from what each Grant of a next epoch rests on.
 use Rattle.std.proofs.Common.{◌≡◌, inl, inr, ℕ, ◌+◌, ◌≤◌, ◌<◌, List, Some, None, arith, refl, sym, subst, false, slice_get, le-ltb}
 use Rattle.proto_data.specs.declared.message.Entry.{Entry}
-use Rattle.proto_model.specs.Table.{Key}
+use Rattle.key_table.specs.Table.{Key}
 use Rattle.proto_model.specs.Slot.{Slot, Lease, Asking, Held, is_young}
 use Rattle.proto_model.specs.Stands.{entries_of}
 use Rattle.proto_model.specs.World.{World, SwitchNode, ReplicaNode}

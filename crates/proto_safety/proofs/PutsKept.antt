@@ -2,7 +2,8 @@
 use Rattle.std.proofs.Common.{◌≡◌, ◌⊎◌, inl, inr, ℕ, ◌+◌, List, [], ◌∷◌, ◌++◌, length, Some, None, sym, ap, ◌∙◌, subst, true, slice_get, arith, append_assoc, length-append}
 use Rattle.proto_data.specs.declared.message.Msg.{Msg}
 use Rattle.proto_data.specs.declared.message.Entry.{Entry}
-use Rattle.proto_model.specs.Table.{Key}
+use Rattle.key_table.specs.Table.{Key}
+use Rattle.proto_data.specs.declared.message.Carried.{Carried}
 use Rattle.proto_model.specs.Slot.{Slot}
 use Rattle.proto_model.specs.SwitchState.{slot_at}
 use Rattle.proto_model.specs.Feeds.{Each}

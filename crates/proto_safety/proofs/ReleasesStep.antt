@@ -10,7 +10,7 @@ use Rattle.proto_data.specs.declared.message.Entry.{Entry}
 use Rattle.proto_data.specs.declared.message.Carried.{Carried}
 use Rattle.rp_app.specs.Application.{Application, zeros}
 use Rattle.proto_data.specs.Carrying.{output_of}
-use Rattle.proto_model.specs.Table.{Key}
+use Rattle.key_table.specs.Table.{Key}
 use Rattle.proto_model.specs.Ring.{Ring, remembers}
 use Rattle.proto_model.specs.Feeds.{packet_at, key_at}
 use Rattle.proto_model.specs.Committed.{epoch_granted, is_in, is_closed}
@@ -20,7 +20,7 @@ use Rattle.rp_base.specs.declared.legality.Fed.{Fed}
 use Rattle.proto_safety.specs.Books.{In}
 use Rattle.proto_safety.proofs.FlowAlarm.{to_filter, to_append}
 use Rattle.proto_safety.proofs.SerialLists.{closing_in, epochs_in, journal_in, closed_in, serial_in}
-use Rattle.proto_safety.proofs.Tables.{same_key-refl}
+use Rattle.key_table.proofs.Tables.{same_key-refl}
 
 -- ---- members of the serial list
 

@@ -12,7 +12,7 @@ use Rattle.proto_data.specs.declared.message.Record.{Record}
 use Rattle.proto_data.specs.declared.terms.Mode.{Mode}
 use Rattle.proto_data.specs.declared.terms.Terms.{Terms}
 use Rattle.rp_app.specs.Application.{Application, IsApplication}
-use Rattle.proto_model.specs.Table.{Key}
+use Rattle.key_table.specs.Table.{Key}
 use Rattle.proto_model.specs.World.{World, Setup, opened}
 use Rattle.rp_base.specs.declared.legality.Fed.{Fed}
 use Rattle.rp_base.specs.declared.legality.Released.{Released}
@@ -32,7 +32,7 @@ use Rattle.proto_safety.proofs.RunsAreLegal.{runs_are_legal}
 use Rattle.proto_safety.proofs.LinesTold.{run_world, releases_append, releases_told, refusals_told, refusals_only, feeds_told, run_no_serial, NoSerial, NoRefusal, no_flows}
 use Rattle.proto_safety.proofs.Lists.{each_append, each_map}
 use Rattle.proto_safety.proofs.RunLines.{refusal_said, refused_said, release_said, releases_said, feeds_said, flows_said, feeds_same, release_lines, printed_feeds, printed_releases, printed_flows}
-use Rattle.proto_safety.proofs.Tables.{same_key-refl}
+use Rattle.key_table.proofs.Tables.{same_key-refl}
 
 -- ---- lines of frames say none of this
 

@@ -2,8 +2,9 @@
 use Rattle.std.proofs.Common.{◌≡◌, ℕ, ◌+◌, ◌≤◌, [], ◌∷◌, ◌++◌, length, drop, Option, Some, None, refl, ap, true, false, Bool, arith}
 use Rattle.std.specs.Prelude.{◌==◌, ◌||◌, if◌then◌else◌, nat_lt}
 use Rattle.std.proofs.lemmas.Bool.{false≢true}
-use Rattle.proto_model.specs.Table.{Key, Table, same_key, get, put, map_values}
-use Rattle.proto_model.specs.Ring.{Ring, ring_room, holds, remembers, remember, forget}
+use Rattle.key_table.specs.Table.{Key, Table, same_key, get, put, map_values}
+use Rattle.proto_model.specs.Ring.{Ring, holds, remembers, remember, forget}
+use Rattle.proto_data.specs.declared.limits.TheConstants.{MARKS}
 use Rattle.proto_model.specs.Slot.{Slot}
 
 abbrev pub one : Bool → ℕ
@@ -25,7 +26,7 @@ count_drop m (x ∷ xs) = omega arith
 
 -- a mark that comes adds itself alone
 pub count_remember : (n m : ℕ) (ring : Ring) → count_in n (remember ring m) ≤ count_in n ring + one (m == n)
-count_remember n m ring = room_case (nat_lt (length ring) ring_room)
+count_remember n m ring = room_case (nat_lt (length ring) MARKS)
   where
     room_case : (b : Bool) → count_in n (if b then ring ++ Some m ∷ [] else drop 1 ring ++ Some m ∷ []) ≤ count_in n ring + one (m == n)
     room_case true = omega (arith, count_append n ring (Some m ∷ []))

@@ -2,7 +2,7 @@
 use Rattle.std.proofs.Common.{◌≡◌, ◌≢◌, ℕ, List, [], ◌∷◌, Option, Some, None, refl, sym, ◌∙◌}
 use Rattle.rp_app.specs.Application.{Application}
 use Rattle.proto_model.specs.Legal.{Legal}
-use Rattle.proto_model.specs.Table.{Key}
+use Rattle.key_table.specs.Table.{Key}
 use Rattle.rp_base.specs.declared.legality.Fed.{Fed}
 use Rattle.rp_base.specs.declared.legality.Released.{Released}
 use Rattle.proto_model.specs.Feeds.{Each, Pairwise, key_at}

@@ -9,7 +9,7 @@ use Rattle.rp_base.specs.declared.legality.Released.{Released}
 use Rattle.rp_base.specs.declared.line.Line.{Line as Printed}
 use Rattle.proto_data.specs.declared.message.Body.{Body}
 use Rattle.proto_data.specs.declared.message.Msg.{Msg}
-use Rattle.proto_model.specs.Table.{Key, same_key}
+use Rattle.key_table.specs.Table.{Key, same_key}
 use Rattle.proto_model.specs.Lines.{Line, Release, Dropped, LostLine, Refused, Stranger, Send, Serial, Epoch, CellsLine, End, printed_line, printed}
 use Rattle.proto_safety.specs.LegalLines.{refuses, is_refused, feed_of, feeds_from, feeds_in, release_in, releases_in, is_release, release_line, cells_behind, flow_at, flows_in}
 

@@ -6,7 +6,7 @@ use Rattle.std.proofs.lemmas.Grind.{fold-append}
 use Rattle.std.proofs.lemmas.List.Concat.{flat_map-cons}
 use Rattle.std.proofs.lemmas.List.Elements.{filter_map-append}
 use Rattle.proto_data.specs.declared.message.Entry.{Entry}
-use Rattle.proto_model.specs.Table.{Key, same_key}
+use Rattle.key_table.specs.Table.{Key, same_key}
 use Rattle.proto_model.specs.Feeds.{Each}
 use Rattle.proto_model.specs.Committed.{number_in, greater, epoch_granted, is_in, is_closed}
 use Rattle.proto_model.specs.ReplicaRows.{entry_key}
@@ -14,7 +14,7 @@ use Rattle.proto_model.specs.World.{Journaled}
 use Rattle.proto_safety.specs.Books.{In}
 use Rattle.proto_safety.specs.Flows.{FlowRecord, FitsFrom, flow_step, flow_from, flow_of}
 use Rattle.proto_safety.specs.LeaseLaws.{HasEpoch}
-use Rattle.proto_safety.proofs.Tables.{same_key-refl}
+use Rattle.key_table.proofs.Tables.{same_key-refl}
 use Rattle.proto_safety.proofs.BookEpochs.{Stepped, other, first, next, put, snap, stepped, key_of_epoch}
 use Rattle.proto_safety.proofs.EpochNumbers.{number_epoch, greater-None}
 use Rattle.proto_safety.proofs.Lists.{each_append}

@@ -8,7 +8,7 @@ use Rattle.std.proofs.lemmas.List.Concat.{flat_map-cons}
 use Rattle.std.proofs.lemmas.List.Elements.{filter-append, filter_map-append}
 use Rattle.proto_data.specs.declared.message.Entry.{Entry}
 use Rattle.rp_app.specs.Application.{Application}
-use Rattle.proto_model.specs.Table.{Key}
+use Rattle.key_table.specs.Table.{Key}
 use Rattle.proto_model.specs.Feeds.{Each, Pairwise}
 use Rattle.proto_model.specs.Committed.{epoch_granted, is_in, is_closed}
 use Rattle.proto_model.specs.World.{Journaled}
@@ -24,7 +24,7 @@ use Rattle.proto_safety.proofs.Lists.{each_append, each_filter, each_all}
 use Rattle.proto_safety.proofs.NumberSplits.{NumbersRise, lt_not}
 use Rattle.proto_safety.proofs.SerialLists.{closing_in, epochs_in, journal_in, closed_in, serial_in, front_in, filter_no, no_grant}
 use Rattle.proto_safety.proofs.SerialFronts.{epochs_above}
-use Rattle.proto_safety.proofs.Tables.{same_key-refl, same_key-true}
+use Rattle.key_table.proofs.Tables.{same_key-refl, same_key-true}
 use Rattle.proto_safety.proofs.CellsFed.{in_flat_parts}
 
 -- ---- pairs

@@ -13,7 +13,7 @@ use Rattle.proto_data.specs.declared.message.Carried.{Carried}
 use Rattle.rp_app.specs.Application.{Application, Delta, IsApplication, IsOutputOf, after, zeros}
 use Rattle.proto_data.specs.Carrying.{packet_of, carried_output, output_of}
 use Rattle.proto_model.specs.Effects.{added, made_output}
-use Rattle.proto_model.specs.Table.{Key, same_key}
+use Rattle.key_table.specs.Table.{Key, same_key}
 use Rattle.proto_model.specs.Feeds.{packet_at, key_at}
 use Rattle.proto_model.specs.Committed.{committed_book, closing_of, is_closed}
 use Rattle.proto_model.specs.Slot.{Slot}
@@ -43,7 +43,7 @@ use Rattle.proto_safety.proofs.SwitchItems.{own_serial}
 use Rattle.proto_safety.proofs.FlowCells.{other_journal, not_in_key}
 use Rattle.proto_safety.proofs.SwitchTable.{RowTaken, Ready, msg, direct, mirrored, snapped, acked, late, row_taken, late_item}
 use Rattle.proto_safety.proofs.SwitchTable.{keyless as row_keyless}
-use Rattle.proto_safety.proofs.Tables.{same_key-true}
+use Rattle.key_table.proofs.Tables.{same_key-true}
 use Rattle.proto_safety.proofs.WorldOutputs.{output_mark}
 
 length-after : (app : Application) (ps : List Packet) (cells : List ℕ) → length (after app cells ps) ≡ length cells

@@ -12,7 +12,7 @@ use Rattle.proto_data.specs.declared.message.Config.{Config}
 use Rattle.proto_data.specs.MessageFits.{is_u32, are_u32, key_fits, load_fits, mark_fits, delta_fits, entry_spelled, echoed_fits, config_fits, body_fits, message_fits}
 use Rattle.rp_app.specs.Application.{Delta, rising, cells_named}
 use Rattle.proto_model.specs.Feeds.{Each}
-use Rattle.proto_model.specs.Table.{Key}
+use Rattle.key_table.specs.Table.{Key}
 use Rattle.proto_safety.specs.Books.{Rising}
 use Rattle.proto_safety.specs.Sizes.{KeySized, LoadSized, MarkSized, DeltaSized, EntrySized, EchoedSized, ConfigSized, BodySized, MsgSized}
 

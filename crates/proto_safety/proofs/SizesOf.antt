@@ -8,12 +8,12 @@ use Rattle.proto_data.specs.MessageFits.{is_store}
 use Rattle.rp_app.specs.Application.{Delta, IsDelta, cells_named}
 use Rattle.rp_app.proofs.Deltas.{short_is, named_length}
 use Rattle.proto_model.specs.Feeds.{Each}
-use Rattle.proto_model.specs.Table.{Key, Table, same_key, get, put, map_values}
+use Rattle.key_table.specs.Table.{Key, Table, same_key, get, put, map_values}
 use Rattle.proto_model.specs.Slot.{chunk_count}
 use Rattle.proto_model.specs.SwitchState.{head_node}
 use Rattle.proto_model.specs.ReplicaState.{successor_of, predecessor_of, last_of}
 use Rattle.proto_safety.specs.Sizes.{DeltaSized}
-use Rattle.proto_safety.proofs.Tables.{same_key-true}
+use Rattle.key_table.proofs.Tables.{same_key-true}
 
 -- ---- tables
 

@@ -8,7 +8,7 @@ use Rattle.proto_data.specs.declared.message.Record.{Record}
 use Rattle.proto_data.specs.declared.message.Carried.{Carried}
 use Rattle.proto_data.specs.declared.message.Config.{Config}
 use Rattle.proto_data.specs.declared.terms.Terms.{Terms}
-use Rattle.proto_model.specs.Table.{Key}
+use Rattle.key_table.specs.Table.{Key}
 use Rattle.proto_model.specs.Slot.{Slot, Lease, Round, Idle, Asking, Held, Lapsed}
 use Rattle.proto_model.specs.SwitchState.{Switch, Copy}
 use Rattle.proto_model.specs.ReplicaState.{Replica}

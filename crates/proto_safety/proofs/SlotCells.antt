@@ -6,7 +6,7 @@ use Rattle.std.proofs.lemmas.List.{length-set}
 use Rattle.proto_data.specs.declared.message.Input.{Input}
 use Rattle.rp_base.specs.declared.node.Packet.{Packet}
 use Rattle.rp_app.specs.Application.{Application, Delta, written}
-use Rattle.proto_model.specs.Table.{Key, Table, same_key, get, put, map_values}
+use Rattle.key_table.specs.Table.{Key, Table, same_key, get, put, map_values}
 use Rattle.proto_model.specs.Slot.{Slot, Lease, Idle, Asking, Held, Lapsed, lapsed_slot, lapsed_lease}
 use Rattle.proto_model.specs.SwitchState.{Switch, lapsed}
 use Rattle.proto_model.specs.SwitchAlarm.{alarm, Walk, walk_order}
@@ -17,7 +17,7 @@ use Rattle.proto_model.specs.Feeds.{Each}
 use Rattle.proto_model.specs.World.{World, Setup, SwitchNode, opened, below, open_switch_node}
 use Rattle.proto_model.specs.WorldStep.{advanced_switches}
 use Rattle.proto_safety.proofs.Lists.{each_at, each_set, each_changed, each_map}
-use Rattle.proto_safety.proofs.Tables.{get-put_same, get-put_other, get-map_values, same_key-true, same_some}
+use Rattle.key_table.proofs.Tables.{get-put_same, get-put_other, get-map_values, same_key-true, same_some}
 use Rattle.proto_safety.proofs.SwitchTable.{RowTaken, Ready, fed, at_grant, at_grant_again, ask_again, no_copy_room, direct, mirrored, snapped, too_old, granted_only, acked, round_done, busied, row_taken}
 use Rattle.proto_safety.proofs.AlarmInduction.{WalkKeeps, walk_kept}
 use Rattle.proto_safety.proofs.Copies.{is_leased}

@@ -6,7 +6,7 @@ use Rattle.rp_base.specs.declared.node.Node.{Node}
 use Rattle.proto_data.specs.declared.message.Body.{Body}
 use Rattle.proto_data.specs.declared.message.Input.{Input}
 use Rattle.proto_data.specs.declared.message.Carried.{Carried}
-use Rattle.proto_model.specs.Table.{Key, Table, same_key, get, put}
+use Rattle.key_table.specs.Table.{Key, Table, same_key, get, put}
 use Rattle.proto_model.specs.Slot.{Slot, Lease, Round, Idle, Asking, Held, Lapsed, epoch_of, lapsed_lease}
 use Rattle.proto_model.specs.SwitchState.{Copy, is_of}
 use Rattle.proto_model.specs.SwitchRow.{has_epoch}
@@ -16,7 +16,7 @@ use Rattle.proto_safety.specs.LeaseLaws.{Request, AskOf, NumberOf, First}
 use Rattle.proto_safety.proofs.FirstSendings.{Made, sending}
 use Rattle.proto_safety.proofs.FlowAlarm.{in_append, in_filter}
 use Rattle.proto_safety.proofs.FlowBooks.{in_front, in_last}
-use Rattle.proto_safety.proofs.Tables.{get-put_same, get-put_other, same_key-true, same_key-refl, same_some}
+use Rattle.key_table.proofs.Tables.{get-put_same, get-put_other, same_key-true, same_key-refl, same_some}
 use Rattle.proto_safety.proofs.SwitchTable.{msg}
 
 -- the first sendings of the Asking slots, the copies and the running rounds of switch n

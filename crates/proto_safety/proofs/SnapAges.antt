@@ -4,7 +4,7 @@ use Rattle.std.specs.Prelude.{drop, nat_lt, if◌then◌else◌}
 use Rattle.std.proofs.lemmas.Bool.{and_parts, ltb-true, both_ways}
 use Rattle.std.proofs.lemmas.List.{drop_all}
 use Rattle.std.proofs.lemmas.List.Elements.{filter-append}
-use Rattle.proto_model.specs.Table.{Key, Table, same_key, get, put}
+use Rattle.key_table.specs.Table.{Key, Table, same_key, get, put}
 use Rattle.proto_data.specs.declared.message.Entry.{Entry}
 use Rattle.rp_app.specs.Application.{Application}
 use Rattle.proto_model.specs.SwitchState.{Begun, slot_at}
@@ -17,7 +17,7 @@ use Rattle.proto_safety.proofs.FlowCopies.{not_strict}
 use Rattle.proto_safety.proofs.FlowMoves.{chunk_slot}
 use Rattle.proto_safety.proofs.KeptFronts.{found_same}
 use Rattle.proto_safety.proofs.SnapSlots.{put_any, WalkSnaps, rounds_on, made_round, new_round_at, walk_snaps}
-use Rattle.proto_safety.proofs.Tables.{same_some}
+use Rattle.key_table.proofs.Tables.{same_some}
 use Rattle.std.proofs.lemmas.List.{map-append}
 use Rattle.proto_model.specs.Feeds.{Each}
 use Rattle.proto_model.specs.Committed.{is_in}

@@ -7,7 +7,7 @@ use Rattle.proto_data.specs.declared.message.Msg.{Msg}
 use Rattle.proto_data.specs.declared.message.Body.{Body}
 use Rattle.proto_data.specs.declared.message.Entry.{Entry}
 use Rattle.rp_app.specs.Application.{Application}
-use Rattle.proto_model.specs.Table.{Key}
+use Rattle.key_table.specs.Table.{Key}
 use Rattle.proto_model.specs.Slot.{chunk_count, chunk_of}
 use Rattle.proto_model.specs.Feeds.{Each, Pairwise}
 use Rattle.proto_model.specs.Committed.{is_in}
@@ -20,7 +20,7 @@ use Rattle.proto_safety.proofs.Chains.{each_in}
 use Rattle.proto_safety.proofs.FlowSerial.{EachMade}
 use Rattle.proto_safety.proofs.SnapSlots.{SnapTable, SnapSays}
 use Rattle.proto_safety.proofs.SwitchNodes.{AllAt}
-use Rattle.proto_safety.proofs.Tables.{same_some}
+use Rattle.key_table.proofs.Tables.{same_some}
 use Rattle.proto_safety.proofs.WorldPuts.{NumberFrame}
 
 -- ---- chunks

@@ -12,7 +12,7 @@ use Rattle.proto_safety.specs.Flows.{FlowRecord, flow_of}
 use Rattle.proto_data.specs.declared.message.Carried.{Carried}
 use Rattle.rp_app.specs.Application.{Application, IsApplication}
 use Rattle.proto_data.specs.Carrying.{packet_of}
-use Rattle.proto_model.specs.Table.{Key}
+use Rattle.key_table.specs.Table.{Key}
 use Rattle.proto_model.specs.Effects.{added, made_output}
 use Rattle.proto_model.specs.Feeds.{Each, Pairwise, fed_at, packet_at}
 use Rattle.proto_model.specs.SwitchState.{Item, SwitchStep}

@@ -10,7 +10,7 @@ use Rattle.proto_data.specs.declared.message.Msg.{Msg}
 use Rattle.proto_data.specs.declared.message.Body.{Body}
 use Rattle.proto_data.specs.declared.message.Entry.{Entry}
 use Rattle.rp_app.specs.Application.{Application}
-use Rattle.proto_model.specs.Table.{Key, Table, same_key, get, put}
+use Rattle.key_table.specs.Table.{Key, Table, same_key, get, put}
 use Rattle.proto_model.specs.Slot.{Slot, Round, Held, epoch_of}
 use Rattle.proto_model.specs.SwitchState.{Begun, slot_at}
 use Rattle.proto_model.specs.SwitchAlarm.{Walk, chunk_sent}
@@ -32,7 +32,7 @@ use Rattle.proto_safety.proofs.KeptFronts.{found_more, find_none, front_rounds, 
 use Rattle.proto_safety.proofs.Chains.{each_in}
 use Rattle.proto_safety.proofs.FedMarks.{pairwise_push}
 use Rattle.proto_safety.proofs.Lists.{each_all, each_append, each_weaker}
-use Rattle.proto_safety.proofs.Tables.{get-put_same, get-put_other, same_key-true, same_key-refl, same_some}
+use Rattle.key_table.proofs.Tables.{get-put_same, get-put_other, same_key-true, same_key-refl, same_some}
 use Rattle.proto_safety.proofs.WorldPuts.{NumberIn}
 
 -- ---- what goes on

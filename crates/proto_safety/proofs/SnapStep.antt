@@ -13,7 +13,7 @@ use Rattle.proto_data.specs.declared.message.Carried.{Carried}
 use Rattle.proto_data.specs.declared.terms.Mode.{Mode}
 use Rattle.rp_app.specs.Application.{Application, IsApplication, IsOutputOf, Delta, written, zeros}
 use Rattle.proto_data.specs.Carrying.{packet_of}
-use Rattle.proto_model.specs.Table.{Key, Table, same_key, put}
+use Rattle.key_table.specs.Table.{Key, Table, same_key, put}
 use Rattle.proto_model.specs.Effects.{added, made_output}
 use Rattle.proto_model.specs.Feeds.{Each, Pairwise, packet_at}
 use Rattle.proto_model.specs.Committed.{is_in}
@@ -58,7 +58,7 @@ use Rattle.proto_safety.proofs.SnapSlots.{SnapTable, SnapSays, Top, WalkSnaps, R
 use Rattle.proto_safety.proofs.SwitchNodes.{AllAt}
 use Rattle.proto_safety.proofs.SwitchSays.{step_says}
 use Rattle.proto_safety.proofs.SwitchTable.{RowTaken, Ready, Timely, msg, fed, at_grant, at_grant_again, ask_again, no_copy_room, direct, mirrored, snapped, too_old, granted_only, late, acked, round_done, busied, keyless as row_keyless, row_taken}
-use Rattle.proto_safety.proofs.Tables.{same_key-true, same_key-refl}
+use Rattle.key_table.proofs.Tables.{same_key-true, same_key-refl}
 use Rattle.proto_safety.proofs.WorldPuts.{NumberIn, NumberFrame}
 use Rattle.proto_safety.proofs.SwitchWas.{step_item}
 use Rattle.proto_safety.proofs.Induction.{Comes}

@@ -11,7 +11,7 @@ use Rattle.proto_data.specs.declared.message.Input.{Input}
 use Rattle.proto_data.specs.declared.message.Config.{Config}
 use Rattle.proto_data.specs.declared.message.Record.{Record}
 use Rattle.proto_data.specs.declared.message.Carried.{Carried}
-use Rattle.proto_model.specs.Table.{put}
+use Rattle.key_table.specs.Table.{put}
 use Rattle.proto_model.specs.Feeds.{Each}
 use Rattle.proto_model.specs.Records.{Booked}
 use Rattle.proto_model.specs.ReplicaState.{Replica, StoreStep, is_tail, is_head, is_member, to_replica, successor_of, predecessor_of, last_of, record_at}

@@ -12,7 +12,7 @@ use Rattle.proto_data.specs.declared.message.Carried.{Carried}
 use Rattle.proto_data.specs.declared.message.Config.{Config}
 use Rattle.rp_base.specs.declared.event.Lost.{Lost}
 use Rattle.rp_app.specs.Application.{Delta}
-use Rattle.proto_model.specs.Table.{Key}
+use Rattle.key_table.specs.Table.{Key}
 use Rattle.proto_model.specs.Records.{entry_fits, delta_within}
 use Rattle.proto_model.specs.ReplicaState.{Replica, record_at, Gathered}
 use Rattle.proto_model.specs.ReplicaRows.{StoreRow, Loses, Answers, Echoes, Appends, Gathers, AppendsSnap, Commits, Adopts, Resends, store_row, store_message_row, ask_row, put_row, snap_row, numbered_row, gathered_row, echoed_row, covered, at_head, switch_of, echoed_key}

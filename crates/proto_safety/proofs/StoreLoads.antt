@@ -7,7 +7,7 @@ use Rattle.proto_data.specs.declared.message.Entry.{Entry}
 use Rattle.proto_data.specs.declared.message.Record.{Record}
 use Rattle.proto_data.specs.declared.message.Carried.{Carried}
 use Rattle.proto_data.specs.declared.message.Input.{Input}
-use Rattle.proto_model.specs.Table.{Key, put}
+use Rattle.key_table.specs.Table.{Key, put}
 use Rattle.proto_model.specs.Feeds.{Each}
 use Rattle.proto_safety.specs.Loads.{OnLoad, OnEntry, OnEcho, OnPacket}
 use Rattle.proto_model.specs.ReplicaState.{Replica, to_replica, successor_of, predecessor_of, last_of, is_member, is_tail, record_at}

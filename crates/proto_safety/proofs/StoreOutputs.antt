@@ -9,7 +9,7 @@ use Rattle.proto_data.specs.declared.message.Echoed.{Echoed}
 use Rattle.proto_data.specs.declared.message.Input.{Input}
 use Rattle.proto_data.specs.declared.message.Record.{Record}
 use Rattle.proto_data.specs.declared.message.Carried.{Carried}
-use Rattle.proto_model.specs.Table.{Key, put}
+use Rattle.key_table.specs.Table.{Key, put}
 use Rattle.proto_model.specs.Feeds.{Each}
 use Rattle.proto_model.specs.ReplicaState.{Replica, is_member, is_tail, record_at, last_of, successor_of, predecessor_of, to_replica}
 use Rattle.proto_model.specs.ReplicaRows.{StoreRow, Answers, Echoes, Appends, AppendsSnap, Commits, Adopts, Resends, appended_as, configured_as, entry_key, forwards, owner_answer, store_perform, store_row, store_step, with_entry}

@@ -10,7 +10,7 @@ use Rattle.proto_data.specs.declared.message.Entry.{Entry}
 use Rattle.proto_data.specs.declared.message.Input.{Input}
 use Rattle.proto_data.specs.declared.message.Record.{Record}
 use Rattle.proto_data.specs.declared.message.Carried.{Carried}
-use Rattle.proto_model.specs.Table.{Key, get, put}
+use Rattle.key_table.specs.Table.{Key, get, put}
 use Rattle.proto_model.specs.Feeds.{Each}
 use Rattle.proto_model.specs.Records.{Booked, cells_of}
 use Rattle.proto_model.specs.ReplicaState.{Replica, StoreStep, record_at, is_tail, is_member, to_replica, successor_of, predecessor_of, last_of}
@@ -21,7 +21,7 @@ use Rattle.proto_safety.specs.Flows.{flow_in, flow_of, FitsFrom, GrantedNow, Ack
 use Rattle.proto_safety.proofs.StoreTable.{Taken, busied, denied, denied_snap, granted_again, acked_again, had, is_owner, covers, message_taken}
 use Rattle.proto_safety.proofs.StoreStands.{book_after, StepStands, step_stands, entries_of-push}
 use Rattle.proto_safety.proofs.FlowBooks.{stands_flow, in_last, last_numbered, numbered_put, numbered_snap}
-use Rattle.proto_safety.proofs.Tables.{get-put_same, same_some, same_key-refl}
+use Rattle.key_table.proofs.Tables.{get-put_same, same_some, same_key-refl}
 use Rattle.proto_safety.proofs.Lists.{each_append, each_if}
 
 abbrev pub Replies : Replica → List Entry → List Msg → Type 0

@@ -6,7 +6,7 @@ use Rattle.proto_data.specs.declared.message.Body.{Body}
 use Rattle.proto_data.specs.declared.message.Entry.{Entry}
 use Rattle.proto_data.specs.declared.message.Carried.{Carried}
 use Rattle.proto_data.specs.declared.message.Record.{Record}
-use Rattle.proto_model.specs.Table.{put}
+use Rattle.key_table.specs.Table.{put}
 use Rattle.proto_model.specs.ReplicaState.{Replica, to_replica, successor_of, predecessor_of, last_of}
 use Rattle.proto_model.specs.ReplicaRows.{StoreRow, Echoes, Appends, AppendsSnap, Commits, Adopts, Resends, store_perform, forwards, owner_answer, appended, after_config}
 use Rattle.proto_safety.proofs.Lists.{length_take_le}

@@ -15,7 +15,7 @@ use Rattle.proto_data.specs.declared.message.Config.{Config}
 use Rattle.proto_data.specs.MessageFits.{is_store, is_switch, nodes_fit}
 use Rattle.rp_base.specs.declared.node.Node.{Node}
 use Rattle.proto_model.specs.Feeds.{Each}
-use Rattle.proto_model.specs.Table.{Key, get, put}
+use Rattle.key_table.specs.Table.{Key, get, put}
 use Rattle.proto_model.specs.Records.{Records, applied, cells_of, put_applied, snap_applied}
 use Rattle.proto_model.specs.ReplicaState.{Replica, StoreStep, Gathered, record_at, is_member, is_tail, to_node, to_replica, successor_of, predecessor_of, last_of, no_parts, gathering_of, with_part, part_cells, whole_cells}
 use Rattle.proto_model.specs.ReplicaRows.{StoreRow, Appends, Resends, store_row, store_perform, store_step, appended_as, configured_as, owner_answer, forwards, with_entry, entry_key, switch_of, carried_mark}

@@ -8,7 +8,7 @@ use Rattle.proto_data.specs.declared.message.Carried.{Carried}
 use Rattle.proto_data.specs.declared.message.Input.{Input}
 use Rattle.proto_model.specs.Effects.{added}
 use Rattle.proto_safety.proofs.StoreFits.{StoreFits, row_fits, commit_above, commit_within}
-use Rattle.proto_model.specs.Table.{put}
+use Rattle.key_table.specs.Table.{put}
 use Rattle.proto_model.specs.Records.{Booked, records_of, applied}
 use Rattle.proto_model.specs.ReplicaState.{Replica, StoreStep, is_tail, is_member}
 use Rattle.proto_model.specs.ReplicaRows.{StoreRow, Appends, AppendsSnap, Commits, Adopts, store_perform, store_row, store_step, appended_as, configured_as, tail_appended, inner_appended, with_entry}

@@ -9,7 +9,7 @@ use Rattle.proto_data.specs.declared.message.Echoed.{Echoed}
 use Rattle.proto_data.specs.declared.message.Record.{Record}
 use Rattle.proto_data.specs.declared.message.Carried.{Carried}
 use Rattle.rp_app.specs.Application.{Delta}
-use Rattle.proto_model.specs.Table.{Key, get}
+use Rattle.key_table.specs.Table.{Key, get}
 use Rattle.proto_model.specs.Records.{delta_within}
 use Rattle.proto_model.specs.ReplicaState.{Replica, record_at, is_head, is_tail, Gathered, whole_cells, gathering_of, with_part}
 use Rattle.proto_model.specs.ReplicaRows.{StoreRow, store_message_row, ask_row, put_row, snap_row, gathered_row, echo_row, echoed_row, covered, at_head, switch_of, chunk_fits}

@@ -30,7 +30,7 @@ use Rattle.proto_model.specs.SwitchRow.{Drops, Direct, Mirrored, is_clean, messa
 use Rattle.proto_model.specs.SwitchOutcomes.{perform}
 use Rattle.proto_model.specs.SwitchRows.{switch_step}
 use Rattle.proto_model.specs.SwitchState.{Switch, Item, slot_at, lapsed, has_copies, only_dropped}
-use Rattle.proto_model.specs.Table.{Key, same_key}
+use Rattle.key_table.specs.Table.{Key, same_key}
 use Rattle.proto_model.specs.World.{World, SwitchNode, ReplicaNode, Journaled, opened}
 use Rattle.proto_model.specs.WorldStep.{Act, Delivers, next_event, perform_act, node_takes, switch_takes, world_step}
 use Rattle.proto_safety.specs.Books.{In}
@@ -54,7 +54,7 @@ use Rattle.proto_safety.proofs.StraightStart.{requested}
 use Rattle.proto_safety.proofs.StraightTail.{record_says, node_there, entries_are, hop_delivered, answer_taken, strict_there}
 use Rattle.proto_safety.proofs.StraightWaits.{hops_later}
 use Rattle.proto_safety.proofs.SwitchSends.{IsRequest}
-use Rattle.proto_safety.proofs.Tables.{get-map_values}
+use Rattle.key_table.proofs.Tables.{get-map_values}
 use Rattle.proto_safety.proofs.WorldOrigins.{NodeOrigins}
 
 -- ---- how many cells a flow has

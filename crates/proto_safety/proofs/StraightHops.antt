@@ -18,7 +18,7 @@ use Rattle.proto_model.specs.ReplicaRows.{StoreRow, Loses, Answers, Appends, sto
 use Rattle.proto_model.specs.ReplicaState.{Replica, StoreStep, record_at, is_head, is_tail, is_member, to_replica, to_node, successor_of, predecessor_of}
 use Rattle.proto_model.specs.Runs.{Run, before, act_at}
 use Rattle.proto_model.specs.Straight.{Hop, Hops, SentAt, load_of, replica_at, reached, comes_next, put_next}
-use Rattle.proto_model.specs.Table.{Key}
+use Rattle.key_table.specs.Table.{Key}
 use Rattle.proto_model.specs.World.{World, ReplicaNode}
 use Rattle.proto_model.specs.WorldStep.{Delivers, node_takes, replica_takes, runs_now, runs_at_replica, next_event}
 use Rattle.proto_safety.specs.Books.{In}

@@ -25,7 +25,7 @@ use Rattle.proto_model.specs.SwitchRow.{has_epoch, message_row}
 use Rattle.proto_model.specs.SwitchOutcomes.{perform}
 use Rattle.proto_model.specs.SwitchRows.{switch_step}
 use Rattle.proto_model.specs.SwitchState.{Switch, slot_at, lapsed}
-use Rattle.proto_model.specs.Table.{Key}
+use Rattle.key_table.specs.Table.{Key}
 use Rattle.proto_model.specs.World.{World, ReplicaNode}
 use Rattle.proto_model.specs.WorldStep.{Delivers}
 use Rattle.proto_safety.specs.Books.{In, committed_of}
@@ -40,7 +40,7 @@ use Rattle.proto_safety.proofs.StraightHops.{Answered, OnlyAppends, appending, r
 use Rattle.proto_safety.proofs.StraightTail.{book_fits, record_says, stays_committed, last_flow, hop_delivered, answer_taken, strict_there}
 use Rattle.proto_safety.proofs.StraightWaits.{MarkWaits, still_waits, owner_slot, slot_there, hops_later}
 use Rattle.proto_safety.proofs.HeldRings.{waits_there}
-use Rattle.proto_safety.proofs.Tables.{get-map_values, same_some}
+use Rattle.key_table.proofs.Tables.{get-map_values, same_some}
 
 -- ---- a member of a list
 

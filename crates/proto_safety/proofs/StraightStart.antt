@@ -22,7 +22,7 @@ use Rattle.proto_model.specs.SwitchAlarm.{alarm, repeated_ask, repeated_asks, re
 use Rattle.proto_model.specs.SwitchRow.{SwitchRow, NewAsk, AskAgain, Mirrored, Late, Resends, switch_row}
 use Rattle.proto_model.specs.SwitchRows.{switch_step}
 use Rattle.proto_model.specs.SwitchState.{Switch, SwitchStep, slot_at, lapsed}
-use Rattle.proto_model.specs.Table.{Key, Table}
+use Rattle.key_table.specs.Table.{Key, Table}
 use Rattle.proto_model.specs.World.{World, SwitchNode}
 use Rattle.proto_model.specs.WorldStep.{Act, Delivers, announcements}
 use Rattle.proto_safety.specs.Books.{In, BooksHold}
@@ -39,7 +39,7 @@ use Rattle.proto_safety.proofs.StoreBooks.{SentBooks}
 use Rattle.proto_safety.proofs.StoreStands.{book_after}
 use Rattle.proto_safety.proofs.SwitchSays.{step_says}
 use Rattle.proto_safety.proofs.SwitchSends.{IsRequest}
-use Rattle.proto_safety.proofs.Tables.{get-put_same}
+use Rattle.key_table.proofs.Tables.{get-put_same}
 use Rattle.proto_safety.proofs.WorldBooks.{books_hold}
 use Rattle.proto_safety.proofs.WorldNonces.{config_msgs}
 use Rattle.proto_safety.proofs.WorldSays.{AllSay, all_say}

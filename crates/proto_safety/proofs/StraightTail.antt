@@ -16,7 +16,7 @@ use Rattle.proto_model.specs.Runs.{Run, before, act_at}
 use Rattle.proto_model.specs.Stands.{Stands, entries_of}
 use Rattle.proto_model.specs.Straight.{Hop, Hops}
 use Rattle.proto_model.specs.SwitchRows.{switch_step}
-use Rattle.proto_model.specs.Table.{Key}
+use Rattle.key_table.specs.Table.{Key}
 use Rattle.proto_model.specs.World.{World, SwitchNode, ReplicaNode, opened}
 use Rattle.proto_model.specs.WorldStep.{Delivers, node_takes, switch_takes, next_event}
 use Rattle.proto_safety.specs.Books.{IsPrefix, BooksHold, committed_of}
@@ -33,7 +33,7 @@ use Rattle.proto_safety.proofs.RunSteps.{event_at, kept_between}
 use Rattle.proto_safety.proofs.StoreReplies.{record_flow}
 use Rattle.proto_safety.proofs.StoreStands.{book_after, entries_of-push}
 use Rattle.proto_safety.proofs.StraightHops.{Answered}
-use Rattle.proto_safety.proofs.Tables.{same_key-refl}
+use Rattle.key_table.proofs.Tables.{same_key-refl}
 use Rattle.proto_safety.proofs.WorldBooks.{books_kept, books_hold, known_input, committed_kept}
 use Rattle.proto_safety.proofs.WorldFits.{NodeFits}
 

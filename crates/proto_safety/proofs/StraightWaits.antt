@@ -20,7 +20,7 @@ use Rattle.proto_model.specs.Straight.{Hop, Hops, StraightPut, is_calm, slot_of,
 use Rattle.proto_model.specs.SwitchRow.{has_epoch}
 use Rattle.proto_model.specs.SwitchRows.{switch_step}
 use Rattle.proto_model.specs.SwitchState.{slot_at}
-use Rattle.proto_model.specs.Table.{Key}
+use Rattle.key_table.specs.Table.{Key}
 use Rattle.proto_model.specs.World.{World, SwitchNode}
 use Rattle.rp_base.specs.declared.legality.Released.{Released}
 use Rattle.proto_model.specs.WorldStep.{Act}
@@ -33,7 +33,7 @@ use Rattle.proto_safety.proofs.RunSteps.{event_at, ended, Onward, onward, at_bet
 use Rattle.proto_safety.proofs.SlotFirsts.{has_leased}
 use Rattle.proto_safety.proofs.StraightStart.{requested, put_waits}
 use Rattle.proto_safety.proofs.SwitchSends.{IsRequest}
-use Rattle.proto_safety.proofs.Tables.{same_some}
+use Rattle.key_table.proofs.Tables.{same_some}
 
 -- ---- lists
 

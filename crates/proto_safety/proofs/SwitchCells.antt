@@ -11,7 +11,7 @@ use Rattle.proto_data.specs.declared.message.Carried.{Carried}
 use Rattle.proto_data.specs.declared.terms.Mode.{Mode}
 use Rattle.rp_base.specs.declared.event.DropCause.{DropCause}
 use Rattle.rp_app.specs.Application.{Application}
-use Rattle.proto_model.specs.Table.{Key, same_key, get, put}
+use Rattle.key_table.specs.Table.{Key, same_key, get, put}
 use Rattle.proto_model.specs.Feeds.{Each}
 use Rattle.proto_model.specs.Slot.{Slot, epoch_of, lapsed_slot}
 use Rattle.proto_model.specs.SwitchState.{Switch, Copy, slot_at, lapsed, is_of, is_covered, greatest_first}
@@ -21,7 +21,7 @@ use Rattle.proto_model.specs.SwitchAlarm.{Walk, alarm, resent, due_copies, other
 use Rattle.proto_model.specs.World.{Journaled}
 use Rattle.rp_base.specs.declared.legality.Fed.{Fed}
 use Rattle.proto_safety.specs.Books.{In}
-use Rattle.proto_safety.proofs.Tables.{same_key-true, same_key-refl, get-put_same, get-put_other, get-map_values, same_some}
+use Rattle.key_table.proofs.Tables.{same_key-true, same_key-refl, get-put_same, get-put_other, get-map_values, same_some}
 use Rattle.proto_safety.proofs.FlowAlarm.{in_filter, in_append, in_map, in_due, in_other}
 use Rattle.proto_safety.proofs.SwitchTable.{RowTaken, Ready, Timely, msg, fed, at_grant, at_grant_again, ask_again, no_copy_room, too_old, granted_only, acked, round_done, busied}
 use Rattle.proto_safety.proofs.AlarmInduction.{WalkKeeps, walk_kept}

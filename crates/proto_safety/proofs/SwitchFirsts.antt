@@ -9,7 +9,7 @@ use Rattle.proto_data.specs.declared.message.Carried.{Carried}
 use Rattle.rp_base.specs.declared.node.Packet.{Packet}
 use Rattle.rp_app.specs.Application.{Application}
 use Rattle.proto_model.specs.Ring.{remember}
-use Rattle.proto_model.specs.Table.{Key, Table, get, put, map_values}
+use Rattle.key_table.specs.Table.{Key, Table, get, put, map_values}
 use Rattle.proto_model.specs.Slot.{Slot, Lease, Round, emptied, is_young, Idle, Asking, Held, Lapsed, epoch_of, lapsed_slot}
 use Rattle.proto_model.specs.SwitchState.{Switch, Copy, slot_at, is_of, is_covered, lapsed}
 use Rattle.proto_model.specs.SwitchAlarm.{alarm, Walk, empty_put, chunk_sent, resent, resent_put, repeated_ask, repeated_asks, due_copies, other_copies, walk_order, epoch_at}
@@ -25,7 +25,7 @@ use Rattle.proto_safety.proofs.FlowAlarm.{in_append, in_filter, in_due, to_filte
 use Rattle.proto_safety.proofs.FlowBooks.{in_front, in_last}
 use Rattle.proto_safety.proofs.Lists.{each_append, each_take, each_if}
 use Rattle.proto_safety.proofs.TableKeys.{KeysDiffer, member_found}
-use Rattle.proto_safety.proofs.Tables.{get-map_values, same_key-true, same_key-refl, same_some}
+use Rattle.key_table.proofs.Tables.{get-map_values, same_key-true, same_key-refl, same_some}
 use Rattle.proto_safety.proofs.SwitchTable.{msg, RowTaken, Ready, fed, at_grant, at_grant_again, first_ask, ask_idle, ask_anew, ask_lapsed, ask_again, no_copy_room, direct, mirrored, snapped, too_old, granted_only, late, acked, round_done, denied, busied, row_taken}
 use Rattle.proto_safety.proofs.AlarmInduction.{WalkKeeps, walk_kept, new_round, round_slot}
 use Rattle.proto_safety.proofs.FlowMoves.{chunk_slot}

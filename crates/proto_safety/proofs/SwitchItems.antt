@@ -6,7 +6,7 @@ use Rattle.rp_base.specs.declared.node.Packet.{Packet}
 use Rattle.rp_base.specs.declared.node.Output.{Output}
 use Rattle.proto_data.specs.declared.message.Entry.{Entry}
 use Rattle.rp_app.specs.Application.{Application, Delta, written}
-use Rattle.proto_model.specs.Table.{Key, same_key, put}
+use Rattle.key_table.specs.Table.{Key, same_key, put}
 use Rattle.proto_model.specs.Feeds.{Each, packet_at}
 use Rattle.proto_model.specs.Slot.{Slot, Held, epoch_of}
 use Rattle.proto_model.specs.SwitchState.{Switch, Copy, slot_at, has_copies, is_of}
@@ -17,7 +17,7 @@ use Rattle.rp_base.specs.declared.legality.Fed.{Fed}
 use Rattle.proto_safety.specs.Books.{In, IsPrefix}
 use Rattle.proto_safety.specs.Flows.{FlowRecord, FitsFrom, flow_of}
 use Rattle.proto_safety.proofs.Lists.{each_append}
-use Rattle.proto_safety.proofs.Tables.{same_key-refl, same_key-true}
+use Rattle.key_table.proofs.Tables.{same_key-refl, same_key-true}
 use Rattle.proto_safety.proofs.FlowAlarm.{in_append, to_filter}
 use Rattle.proto_safety.proofs.FlowMoves.{none_of}
 use Rattle.proto_safety.proofs.SerialLists.{journal_in, front_in, serial_in}

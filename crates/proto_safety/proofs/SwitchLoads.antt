@@ -5,7 +5,7 @@ use Rattle.proto_data.specs.declared.message.Carried.{Carried}
 use Rattle.proto_data.specs.declared.message.Input.{Input}
 use Rattle.rp_app.specs.Application.{Application}
 use Rattle.proto_data.specs.Carrying.{carried_packet}
-use Rattle.proto_model.specs.Table.{Key, Table}
+use Rattle.key_table.specs.Table.{Key, Table}
 use Rattle.proto_model.specs.Slot.{Slot, Lease, Asking, is_young}
 use Rattle.proto_model.specs.Feeds.{Each}
 use Rattle.proto_safety.specs.Loads.{OnPacket}

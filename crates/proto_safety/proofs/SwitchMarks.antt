@@ -8,7 +8,7 @@ use Rattle.rp_base.specs.declared.node.Packet.{Packet}
 use Rattle.rp_base.specs.declared.node.Output.{Output}
 use Rattle.rp_app.specs.Application.{Application, IsApplication, IsOutputOf, zeros}
 use Rattle.proto_data.specs.Carrying.{output_of}
-use Rattle.proto_model.specs.Table.{Key, Table, get, put}
+use Rattle.key_table.specs.Table.{Key, Table, get, put}
 use Rattle.proto_model.specs.Ring.{Ring, remembers, forget}
 use Rattle.proto_model.specs.Slot.{Slot, lapsed_slot}
 use Rattle.proto_model.specs.SwitchState.{Switch, SwitchStep, Item, slot_at, lapsed}

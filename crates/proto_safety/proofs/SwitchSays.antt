@@ -8,7 +8,7 @@ use Rattle.proto_data.specs.declared.message.Body.{Body}
 use Rattle.proto_data.specs.declared.message.Input.{Input}
 use Rattle.rp_app.specs.Application.{Application}
 use Rattle.proto_model.specs.Feeds.{Each}
-use Rattle.proto_model.specs.Table.{Key, Table, same_key, get, put}
+use Rattle.key_table.specs.Table.{Key, Table, same_key, get, put}
 use Rattle.proto_model.specs.Slot.{Slot, Lease, Round, Idle, Asking, Held, Lapsed, epoch_of, is_young, lapsed_slot}
 use Rattle.proto_model.specs.SwitchState.{Switch, Copy, slot_at, lapsed}
 use Rattle.proto_model.specs.SwitchRow.{SwitchRow, NewAsk, AskAgain, Mirrored, Late, Resends, switch_row}
@@ -18,7 +18,7 @@ use Rattle.proto_model.specs.SwitchRows.{switch_step}
 use Rattle.proto_safety.specs.Books.{In}
 use Rattle.proto_safety.specs.SwitchSent.{SaysNow, SentNow}
 use Rattle.proto_safety.proofs.Lists.{each_append, each_if, each_take, each_weaker}
-use Rattle.proto_safety.proofs.Tables.{same_key-true, get-put_same, get-put_other, same_some}
+use Rattle.key_table.proofs.Tables.{same_key-true, get-put_same, get-put_other, same_some}
 use Rattle.proto_safety.proofs.TableKeys.{KeysDiffer, differ_map, member_found}
 use Rattle.proto_safety.proofs.Copies.{is_leased, HasSlot, Fit, same_lease}
 use Rattle.proto_safety.proofs.AlarmInduction.{WalkKeeps, walk_kept}

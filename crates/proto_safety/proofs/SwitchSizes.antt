@@ -10,7 +10,7 @@ use Rattle.proto_data.specs.declared.terms.Terms.{Terms}
 use Rattle.rp_app.specs.Application.{Application, IsApplication, IsOutputOf, Delta, written}
 use Rattle.proto_data.specs.Carrying.{carried_packet, carried_output}
 use Rattle.proto_model.specs.Feeds.{Each}
-use Rattle.proto_model.specs.Table.{Key}
+use Rattle.key_table.specs.Table.{Key}
 use Rattle.proto_model.specs.Slot.{Slot, Lease, Idle, Asking, Held, Lapsed, fresh_slot, lapsed_slot, lapsed_lease, extended, emptied}
 use Rattle.proto_model.specs.SwitchState.{Switch, SwitchStep, Copy, slot_at, with_slot, lapsed, is_of, is_covered}
 use Rattle.proto_model.specs.SwitchRow.{SwitchRow, NewAsk, AskAgain, Drops, Direct, Mirrored, Granted, Late, Acked, RoundDone, Denied, Busied, Adopts, Resends, switch_row}

@@ -13,7 +13,7 @@ use Rattle.rp_base.specs.declared.node.Output.{Output}
 use Rattle.proto_data.specs.declared.message.Carried.{Carried}
 use Rattle.rp_app.specs.Application.{Application, Delta}
 use Rattle.proto_data.specs.Carrying.{packet_of}
-use Rattle.proto_model.specs.Table.{Key}
+use Rattle.key_table.specs.Table.{Key}
 use Rattle.proto_model.specs.Ring.{remembers}
 use Rattle.proto_model.specs.Slot.{Slot, Lease, Round, Idle, Asking, Held, Lapsed, is_young, may}
 use Rattle.proto_model.specs.SwitchState.{Switch, slot_at, has_copies}

@@ -6,14 +6,14 @@ use Rattle.proto_data.specs.declared.message.Input.{Input}
 use Rattle.proto_data.specs.declared.message.Carried.{Carried}
 use Rattle.rp_base.specs.declared.node.Packet.{Packet}
 use Rattle.rp_app.specs.Application.{Application}
-use Rattle.proto_model.specs.Table.{Key, Table, same_key, get, put, map_values}
+use Rattle.key_table.specs.Table.{Key, Table, same_key, get, put, map_values}
 use Rattle.proto_model.specs.Slot.{Slot, Idle, Asking, epoch_of, lapsed_slot}
 use Rattle.proto_model.specs.SwitchState.{Switch, Item, slot_at, lapsed}
 use Rattle.proto_model.specs.SwitchAlarm.{Walk, walk_order}
 use Rattle.proto_model.specs.SwitchRow.{SwitchRow, NewAsk, AskAgain, Drops, Direct, Mirrored, Granted, Late, Acked, RoundDone, Denied, Busied, Resends, switch_row}
 use Rattle.proto_model.specs.SwitchOutcomes.{perform, late_did}
 use Rattle.proto_model.specs.SwitchRows.{switch_step}
-use Rattle.proto_safety.proofs.Tables.{get-put_same, get-put_other, get-map_values, same_key-true, same_some}
+use Rattle.key_table.proofs.Tables.{get-put_same, get-put_other, get-map_values, same_key-true, same_some}
 use Rattle.proto_safety.proofs.SwitchTable.{msg, RowTaken, Ready, fed, at_grant, at_grant_again, ask_again, no_copy_room, direct, mirrored, snapped, too_old, granted_only, late, acked, round_done, denied, busied, row_taken}
 use Rattle.proto_safety.proofs.AlarmInduction.{WalkKeeps, walk_kept}
 use Rattle.proto_safety.proofs.SlotFirsts.{acked_epoch, lapsed_epoch, lapsed_asking, has_leased, not_asking}

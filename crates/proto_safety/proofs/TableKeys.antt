@@ -2,10 +2,10 @@
 use Rattle.std.proofs.Common.{◌≡◌, ◌≢◌, [], ◌∷◌, Some, refl, sym, ◌∙◌, ap, subst, true, false, Bool, inl, inr}
 use Rattle.std.specs.Prelude.{if◌then◌else◌}
 use Rattle.std.proofs.lemmas.Bool.{both_ways}
-use Rattle.proto_model.specs.Table.{Key, Table, same_key, get, put, map_values}
+use Rattle.key_table.specs.Table.{Key, Table, same_key, get, put, map_values}
 use Rattle.proto_model.specs.Feeds.{Each, Pairwise}
 use Rattle.proto_safety.specs.Books.{In}
-use Rattle.proto_safety.proofs.Tables.{same_key-true, same_key-refl}
+use Rattle.key_table.proofs.Tables.{same_key-true, same_key-refl}
 
 abbrev OtherKey : {V : Type 0} → Key × V → Key × V → Type 0
 OtherKey a b = a.0 ≢ b.0

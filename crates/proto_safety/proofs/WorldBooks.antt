@@ -23,7 +23,7 @@ use Rattle.proto_safety.proofs.LastBook.{IsLast, last_book, NoneLives, Found, fi
 use Rattle.proto_safety.proofs.BooksLater.{Later, frames_later, node_later, configs_later, to_weaker}
 use Rattle.proto_safety.proofs.BooksStep.{Known, moved_nodes, moved_frames, moved_configs, moved_committed}
 use Rattle.proto_safety.proofs.SwitchSends.{IsRequest, RequestMsg, Requests, switch_requests}
-use Rattle.proto_safety.proofs.Tables.{same_some}
+use Rattle.key_table.proofs.Tables.{same_some}
 use Rattle.proto_safety.proofs.Lists.{each_at, each_append, each_weaker, each_map}
 use Rattle.proto_safety.proofs.Induction.{Keeps, keeps_same, KeepsGiven, keeps_both, run_kept, Comes}
 

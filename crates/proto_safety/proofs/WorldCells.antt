@@ -9,7 +9,7 @@ use Rattle.proto_data.specs.declared.message.Input.{Input}
 use Rattle.proto_data.specs.declared.message.Config.{Config}
 use Rattle.proto_data.specs.declared.message.Carried.{Carried}
 use Rattle.rp_app.specs.Application.{Application, Delta}
-use Rattle.proto_model.specs.Table.{Key}
+use Rattle.key_table.specs.Table.{Key}
 use Rattle.proto_model.specs.Effects.{switch_moved, replica_moved}
 use Rattle.proto_model.specs.Feeds.{Each}
 use Rattle.proto_model.specs.ReplicaState.{Replica}

@@ -10,7 +10,7 @@ use Rattle.proto_data.specs.declared.message.Input.{Input}
 use Rattle.proto_data.specs.declared.message.Carried.{Carried}
 use Rattle.rp_app.specs.Application.{Application}
 use Rattle.proto_model.specs.Clocks.{Aged, clocks, switch_clock, replica_clock}
-use Rattle.proto_model.specs.Table.{Key}
+use Rattle.key_table.specs.Table.{Key}
 use Rattle.proto_model.specs.SwitchState.{Switch}
 use Rattle.proto_model.specs.SwitchRows.{switch_step}
 use Rattle.proto_model.specs.Records.{Booked}
@@ -35,7 +35,7 @@ use Rattle.proto_safety.proofs.FlowBooks.{in_front}
 use Rattle.proto_safety.proofs.BookEpochs.{one_grant}
 use Rattle.proto_safety.proofs.WorldPuts.{NumberIn, is_put, is_snap, number_request, NumberFrame, Known, NumberFramesFit}
 use Rattle.proto_safety.proofs.Clocks.{AgedIn}
-use Rattle.proto_safety.proofs.Tables.{same_some}
+use Rattle.key_table.proofs.Tables.{same_some}
 
 -- a request that was sent in an Ask, or in a Put or a Snap
 pub data WasSent (frames : List Msg) (f : First) : Type 0 where

@@ -9,7 +9,7 @@ use Rattle.proto_data.specs.declared.message.Entry.{Entry}
 use Rattle.proto_data.specs.declared.message.Input.{Input}
 use Rattle.proto_data.specs.declared.message.Record.{Record}
 use Rattle.rp_app.specs.Application.{Application}
-use Rattle.proto_model.specs.Table.{Key}
+use Rattle.key_table.specs.Table.{Key}
 use Rattle.proto_model.specs.Feeds.{Each}
 use Rattle.proto_model.specs.Records.{Booked, entry_fits, fits_at, next_epoch, delta_within}
 use Rattle.rp_app.specs.Application.{Delta}
@@ -25,7 +25,7 @@ use Rattle.proto_safety.proofs.StoreBooks.{Has, row_applies, row_cells}
 use Rattle.proto_safety.proofs.StoreStands.{book_after}
 use Rattle.proto_safety.proofs.BooksStep.{RowOf, of_message, of_alarm, of_packet, row_of}
 use Rattle.proto_safety.proofs.FlowBooks.{stands_flow, fits_push}
-use Rattle.proto_safety.proofs.Tables.{same_key-true}
+use Rattle.key_table.proofs.Tables.{same_key-true}
 use Rattle.proto_safety.proofs.Lists.{each_at, each_set, each_changed, each_map}
 use Rattle.proto_safety.proofs.Induction.{KeepsGiven}
 

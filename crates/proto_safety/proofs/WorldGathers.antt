@@ -11,7 +11,7 @@ use Rattle.proto_data.specs.declared.message.Entry.{Entry}
 use Rattle.proto_data.specs.declared.message.Input.{Input}
 use Rattle.proto_data.specs.declared.message.Carried.{Carried}
 use Rattle.rp_app.specs.Application.{Application}
-use Rattle.proto_model.specs.Table.{Key, Table, same_key, get, put}
+use Rattle.key_table.specs.Table.{Key, Table, same_key, get, put}
 use Rattle.proto_model.specs.Slot.{chunk_count}
 use Rattle.proto_model.specs.Feeds.{Each}
 use Rattle.proto_model.specs.ReplicaState.{Replica, Gathered, no_parts, gathering_of, with_part, part_cells, whole_cells, is_tail, is_member}
@@ -22,7 +22,7 @@ use Rattle.proto_safety.specs.Books.{In}
 use Rattle.proto_safety.specs.Origins.{ChunkSent, SnapSent}
 use Rattle.proto_safety.proofs.FlowBooks.{in_front}
 use Rattle.proto_safety.proofs.Places.{at_set}
-use Rattle.proto_safety.proofs.Tables.{same_key-true, get-put_same, get-put_other, same_some}
+use Rattle.key_table.proofs.Tables.{same_key-true, get-put_same, get-put_other, same_some}
 use Rattle.proto_safety.proofs.Lists.{each_at, each_set, each_changed, each_map, each_weaker}
 use Rattle.proto_safety.proofs.StoreBooks.{row_cells}
 use Rattle.proto_model.specs.SwitchRows.{switch_step}

@@ -10,7 +10,7 @@ use Rattle.proto_data.specs.declared.terms.Terms.{Terms}
 use Rattle.rp_base.specs.declared.event.Event.{Event}
 use Rattle.rp_app.specs.Application.{Application}
 use Rattle.proto_model.specs.Feeds.{Each}
-use Rattle.proto_model.specs.Table.{Key}
+use Rattle.key_table.specs.Table.{Key}
 use Rattle.proto_model.specs.Slot.{Slot, Lease, Idle, Asking, Held, Lapsed, lapsed_lease, lapsed_slot, extended, emptied}
 use Rattle.proto_model.specs.SwitchState.{Switch, Item, slot_at, open_switch}
 use Rattle.proto_model.specs.ReplicaState.{Replica}
@@ -29,7 +29,7 @@ use Rattle.proto_safety.proofs.FlowMoves.{View, view, Move, Moves, none, more, e
 use Rattle.proto_safety.proofs.FlowAlarm.{in_append, step_moves}
 use Rattle.proto_safety.proofs.FlowInduction.{step_same}
 use Rattle.proto_safety.proofs.Chains.{each_in}
-use Rattle.proto_safety.proofs.Tables.{same_some}
+use Rattle.key_table.proofs.Tables.{same_some}
 use Rattle.proto_safety.proofs.SwitchSays.{step_says}
 use Rattle.proto_safety.proofs.SwitchNodes.{AllAt, all_changed, all_advanced, all_opened, all_weaker}
 use Rattle.proto_safety.proofs.WorldSays.{AllSay, says_kept, opened_say}

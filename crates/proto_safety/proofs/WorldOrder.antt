@@ -11,7 +11,7 @@ use Rattle.proto_data.specs.declared.message.Input.{Input}
 use Rattle.proto_data.specs.declared.message.Carried.{Carried}
 use Rattle.rp_app.specs.Application.{Application, IsApplication}
 use Rattle.proto_data.specs.Carrying.{packet_of}
-use Rattle.proto_model.specs.Table.{Key}
+use Rattle.key_table.specs.Table.{Key}
 use Rattle.proto_model.specs.Effects.{added, switch_moved, replica_moved}
 use Rattle.proto_model.specs.Feeds.{Each, packet_at, key_at}
 use Rattle.proto_model.specs.ReplicaRows.{store_step}

@@ -8,7 +8,7 @@ use Rattle.proto_data.specs.declared.message.Input.{Input}
 use Rattle.proto_data.specs.declared.message.Carried.{Carried}
 use Rattle.rp_base.specs.declared.event.Event.{Event}
 use Rattle.rp_app.specs.Application.{Application}
-use Rattle.proto_model.specs.Table.{Key}
+use Rattle.key_table.specs.Table.{Key}
 use Rattle.proto_model.specs.Feeds.{Each}
 use Rattle.proto_model.specs.Records.{Booked}
 use Rattle.proto_model.specs.Stands.{entries_of, Stands}

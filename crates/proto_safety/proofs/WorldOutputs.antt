@@ -10,7 +10,7 @@ use Rattle.proto_data.specs.declared.message.Body.{Body}
 use Rattle.proto_data.specs.declared.message.Input.{Input}
 use Rattle.rp_app.specs.Application.{Application, Delta, IsApplication, IsOutputOf}
 use Rattle.proto_data.specs.Carrying.{carried_output}
-use Rattle.proto_model.specs.Table.{Key, Table}
+use Rattle.key_table.specs.Table.{Key, Table}
 use Rattle.proto_model.specs.Feeds.{Each}
 use Rattle.proto_model.specs.Slot.{Slot, Lease, Asking, is_young}
 use Rattle.proto_model.specs.SwitchState.{Switch, SwitchDid, Item, lapsed, slot_at, head_node}

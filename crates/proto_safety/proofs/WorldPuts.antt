@@ -8,7 +8,7 @@ use Rattle.proto_data.specs.declared.message.Input.{Input}
 use Rattle.proto_data.specs.declared.message.Carried.{Carried}
 use Rattle.rp_base.specs.declared.node.Output.{Output}
 use Rattle.rp_app.specs.Application.{Application, Delta}
-use Rattle.proto_model.specs.Table.{Key}
+use Rattle.key_table.specs.Table.{Key}
 use Rattle.proto_model.specs.Slot.{Slot, Round, Asking, epoch_of}
 use Rattle.proto_model.specs.SwitchState.{Switch, Item, slot_at}
 use Rattle.proto_model.specs.SwitchRows.{switch_step}
@@ -33,7 +33,7 @@ use Rattle.proto_safety.proofs.SwitchSays.{Tidy, step_says}
 use Rattle.proto_safety.proofs.SwitchTable.{msg}
 use Rattle.proto_safety.proofs.SwitchWas.{Was, goes_on, asks, takes, ItemStands, step_was, step_item}
 use Rattle.proto_safety.proofs.SlotFirsts.{not_asking}
-use Rattle.proto_safety.proofs.Tables.{same_some}
+use Rattle.key_table.proofs.Tables.{same_some}
 
 -- a Put or a Snap of this incarnation, epoch and number
 abbrev pub NumberIn : ℕ → ℕ → ℕ → Key → Body → Type 0

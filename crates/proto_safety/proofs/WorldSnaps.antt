@@ -11,7 +11,7 @@ use Rattle.proto_data.specs.declared.message.Input.{Input}
 use Rattle.proto_data.specs.declared.message.Carried.{Carried}
 use Rattle.proto_data.specs.declared.terms.Mode.{Mode}
 use Rattle.rp_app.specs.Application.{Application}
-use Rattle.proto_model.specs.Table.{Key}
+use Rattle.key_table.specs.Table.{Key}
 use Rattle.proto_model.specs.Slot.{Slot, epoch_of}
 use Rattle.proto_model.specs.SwitchState.{slot_at}
 use Rattle.proto_model.specs.SwitchRows.{switch_step}
@@ -52,7 +52,7 @@ use Rattle.proto_safety.proofs.StoreBooks.{SentBooks}
 use Rattle.proto_safety.proofs.StoreStands.{book_after}
 use Rattle.proto_safety.proofs.SwitchNodes.{AllAt, all_changed, all_advanced}
 use Rattle.proto_safety.proofs.SwitchTable.{msg, no_message}
-use Rattle.proto_safety.proofs.Tables.{same_key-refl, same_key-true}
+use Rattle.key_table.proofs.Tables.{same_key-refl, same_key-true}
 use Rattle.proto_safety.proofs.WorldBooks.{known_input, stopped_grows}
 use Rattle.proto_safety.proofs.Induction.{Keeps, KeepsGiven, Comes, with_fed}
 use Rattle.std.proofs.lemmas.Bool.{and_parts, and_from}

@@ -7,7 +7,7 @@ use Rattle.proto_data.specs.declared.message.Entry.{Entry}
 use Rattle.proto_data.specs.declared.message.Config.{Config}
 use Rattle.proto_data.specs.declared.message.Carried.{Carried}
 use Rattle.proto_model.specs.ReplicaState.{is_head, is_tail}
-use Rattle.proto_model.specs.Table.{Key}
+use Rattle.key_table.specs.Table.{Key}
 use Rattle.proto_model.specs.Feeds.{Each, Pairwise}
 use Rattle.proto_model.specs.Stands.{entries_of, Stands}
 use Rattle.proto_model.specs.Committed.{last_running_book}

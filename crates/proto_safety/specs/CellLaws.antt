@@ -7,7 +7,7 @@ use Rattle.proto_data.specs.declared.terms.Mode.{Mode}
 use Rattle.rp_base.specs.declared.node.Packet.{Packet}
 use Rattle.proto_data.specs.declared.message.Carried.{Carried}
 use Rattle.rp_app.specs.Application.{Application, Delta, after, zeros}
-use Rattle.proto_model.specs.Table.{Key, Table}
+use Rattle.key_table.specs.Table.{Key, Table}
 use Rattle.proto_model.specs.Ring.{Ring}
 use Rattle.proto_model.specs.Slot.{Slot, Round, Lease, Idle, Asking, Held, Lapsed, epoch_of}
 use Rattle.proto_model.specs.SwitchState.{Copy, is_of, slot_at}

@@ -1,7 +1,7 @@
 -- The epochs of a flow rise by one, along a book and along the serial list that follows from it.
 use Rattle.std.specs.Prelude.{ℕ, ◌≡◌, ◌≤◌, List, length, flat_map}
 use Rattle.std.specs.List.{range_with_len}
-use Rattle.proto_model.specs.Table.{Key}
+use Rattle.key_table.specs.Table.{Key}
 use Rattle.proto_model.specs.Records.{Booked}
 use Rattle.proto_model.specs.World.{World, Journaled}
 use Rattle.proto_model.specs.Feeds.{Each, Pairwise}

@@ -1,7 +1,7 @@
 -- Epochs of a flow in a book, and what is committed of one.
 use Rattle.std.specs.Prelude.{ℕ, ◌≡◌, ◌≤◌, List, [], Some, ◌++◌, ◌∷◌}
 use Rattle.proto_data.specs.declared.message.Entry.{Entry}
-use Rattle.proto_model.specs.Table.{Key}
+use Rattle.key_table.specs.Table.{Key}
 use Rattle.proto_model.specs.Committed.{closing}
 use Rattle.proto_model.specs.World.{World}
 use Rattle.proto_safety.specs.Books.{In, IsGranted}

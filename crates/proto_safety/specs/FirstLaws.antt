@@ -3,7 +3,7 @@ use Rattle.std.specs.Prelude.{ℕ, ◌≡◌, List, Some, slice_get}
 use Rattle.rp_base.specs.declared.node.Node.{Node}
 use Rattle.proto_data.specs.declared.message.Msg.{Msg}
 use Rattle.proto_model.specs.Feeds.{Pairwise}
-use Rattle.proto_model.specs.Table.{Key}
+use Rattle.key_table.specs.Table.{Key}
 use Rattle.proto_model.specs.World.{World, SwitchNode}
 use Rattle.proto_safety.specs.Books.{In}
 use Rattle.proto_safety.specs.Firsts.{request_of}

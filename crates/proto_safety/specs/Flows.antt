@@ -5,7 +5,7 @@ use Rattle.proto_data.specs.declared.message.Record.{Record}
 use Rattle.rp_base.specs.declared.node.Node.{Node}
 use Rattle.proto_data.specs.declared.message.Body.{Body}
 use Rattle.rp_app.specs.Application.{written, zeros}
-use Rattle.proto_model.specs.Table.{Key, same_key, get}
+use Rattle.key_table.specs.Table.{Key, same_key, get}
 use Rattle.proto_model.specs.ReplicaRows.{entry_key}
 use Rattle.proto_model.specs.Committed.{number_in, committed_records}
 use Rattle.proto_model.specs.World.{World}

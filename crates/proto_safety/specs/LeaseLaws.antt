@@ -1,7 +1,7 @@
 -- What the protocol promises of leases. A request is an Ask's nonce, a Put's number or a round; `firsts` are the first sendings of all that were made.
 use Rattle.std.specs.Prelude.{◌⊎◌, ℕ, ◌≡◌, ◌≤◌, ◌<◌, ◌+◌, false, List, ◌∷◌, ◌++◌, Option, Some, length, slice_get}
 use Rattle.proto_data.specs.declared.message.Entry.{Entry}
-use Rattle.proto_model.specs.Table.{Key}
+use Rattle.key_table.specs.Table.{Key}
 use Rattle.proto_model.specs.Slot.{Slot, Lease, Idle, Asking, Held, Lapsed, is_young}
 use Rattle.proto_model.specs.SwitchState.{slot_at}
 use Rattle.proto_model.specs.Records.{Booked}

@@ -3,7 +3,7 @@ use Rattle.std.specs.Prelude.{ℕ, ◌+◌, ◌≡◌, ◌≢◌, Bool, true, fa
 use Rattle.std.specs.List.{list_any}
 use Rattle.rp_base.specs.declared.event.Event.{Event}
 use Rattle.rp_app.specs.Application.{Application, zeros}
-use Rattle.proto_model.specs.Table.{Key, same_key}
+use Rattle.key_table.specs.Table.{Key, same_key}
 use Rattle.proto_data.specs.declared.message.Msg.{Msg}
 use Rattle.rp_base.specs.declared.line.Line.{Line}
 use Rattle.proto_model.specs.World.{World, Setup}

@@ -4,7 +4,7 @@ use Rattle.proto_data.specs.declared.message.Body.{Body}
 use Rattle.proto_data.specs.declared.message.Entry.{Entry}
 use Rattle.proto_data.specs.declared.message.Echoed.{Echoed}
 use Rattle.proto_data.specs.declared.message.Carried.{Carried}
-use Rattle.proto_model.specs.Table.{Key}
+use Rattle.key_table.specs.Table.{Key}
 use Rattle.rp_app.specs.Application.{Application}
 use Rattle.proto_data.specs.Carrying.{packet_of, output_of}
 use Rattle.proto_model.specs.World.{Journaled}

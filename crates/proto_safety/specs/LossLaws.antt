@@ -8,7 +8,7 @@ use Rattle.proto_data.specs.declared.message.Record.{Record}
 use Rattle.rp_app.specs.Application.{Application, IsApplication, after, zeros}
 use Rattle.rp_base.specs.Clocks.{TermsHold}
 use Rattle.rp_base.specs.declared.event.Event.{Event}
-use Rattle.proto_model.specs.Table.{Key, get}
+use Rattle.key_table.specs.Table.{Key, get}
 use Rattle.proto_model.specs.Slot.{Slot, Round, Ages, chunk_count, chunk_of, first_of_two}
 use Rattle.proto_model.specs.Feeds.{Each, Pairwise, packets_at, key_at}
 use Rattle.proto_model.specs.Committed.{is_in, number_in, greater, journal, closing, committed_records, committed_cells}

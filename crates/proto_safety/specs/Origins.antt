@@ -7,7 +7,7 @@ use Rattle.proto_data.specs.declared.message.Entry.{Entry}
 use Rattle.proto_data.specs.declared.message.Carried.{Carried}
 use Rattle.rp_base.specs.declared.node.Node.{Node}
 use Rattle.rp_app.specs.Application.{Delta}
-use Rattle.proto_model.specs.Table.{Key}
+use Rattle.key_table.specs.Table.{Key}
 use Rattle.proto_safety.specs.Books.{In, book_of}
 use Rattle.proto_model.specs.World.{World}
 

@@ -13,7 +13,7 @@ use Rattle.proto_data.specs.MessageFits.{nodes_fit}
 use Rattle.rp_base.specs.declared.event.Event.{Event}
 use Rattle.rp_app.specs.Application.{Application, Delta, IsDelta}
 use Rattle.proto_model.specs.Feeds.{Each}
-use Rattle.proto_model.specs.Table.{Key}
+use Rattle.key_table.specs.Table.{Key}
 use Rattle.proto_model.specs.Slot.{Slot, Lease, Round, Idle, Asking, Held, Lapsed, chunk_count}
 use Rattle.proto_model.specs.SwitchState.{Switch, Copy}
 use Rattle.proto_model.specs.ReplicaState.{Replica, Gathered, is_tail, part_cells}

@@ -9,7 +9,7 @@ use Rattle.proto_data.specs.declared.message.Carried.{Carried}
 use Rattle.proto_data.specs.declared.message.Config.{Config}
 use Rattle.rp_base.specs.declared.event.Lost.{Lost}
 use Rattle.rp_app.specs.Application.{Delta}
-use Rattle.proto_model.specs.Table.{Key, get}
+use Rattle.key_table.specs.Table.{Key, get}
 use Rattle.proto_model.specs.Records.{entry_fits, delta_within}
 use Rattle.proto_model.specs.ReplicaState.{Replica, record_at, is_head, is_tail, Gathered, whole_cells, gathering_of, with_part}
 use Rattle.proto_model.specs.ReplicaRows.{StoreRow, Loses, Answers, Echoes, Appends, Gathers, AppendsSnap, Commits, Adopts, switch_of, is_later, chunk_fits, carried_mark}

@@ -4,7 +4,7 @@ use Rattle.proto_data.specs.declared.message.Msg.{Msg}
 use Rattle.proto_data.specs.declared.message.Body.{Body}
 use Rattle.rp_base.specs.declared.node.Node.{Node}
 use Rattle.rp_app.specs.Application.{Delta}
-use Rattle.proto_model.specs.Table.{Key}
+use Rattle.key_table.specs.Table.{Key}
 use Rattle.proto_model.specs.Slot.{Slot, Round, Asking, epoch_of, chunk_count, chunk_of}
 use Rattle.proto_model.specs.SwitchState.{Switch, Copy, slot_at}
 use Rattle.proto_safety.specs.Books.{In}

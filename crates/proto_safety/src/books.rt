@@ -10,7 +10,7 @@ ghost use Rattle.proto_model.specs.WorldStep.{world_after};
 ghost use Rattle.proto_safety.specs.Epochs.{EpochsOf};
 ghost use Rattle.proto_safety.specs.EpochOrder.{EpochsRise, SerialByEpoch};
 ghost use Rattle.proto_model.specs.Committed.{committed_book};
-ghost use Rattle.proto_model.specs.Table.{Key};
+ghost use Rattle.key_table.specs.Table.{Key};
 ghost use Rattle.proto_safety.specs.Books.{HoldsIn, InOrder, IsPrefix, book_of, committed_of};
 
 /// Each replica's records are its entries, applied one after the other.

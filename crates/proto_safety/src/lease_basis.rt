@@ -7,7 +7,7 @@ ghost use Rattle.proto_data.specs.declared.terms.Mode.{Mode};
 ghost use Rattle.proto_model.specs.Feeds.{Each};
 ghost use Rattle.proto_model.specs.Slot.{Slot, epoch_of};
 ghost use Rattle.proto_model.specs.SwitchState.{slot_at};
-ghost use Rattle.proto_model.specs.Table.{Key};
+ghost use Rattle.key_table.specs.Table.{Key};
 ghost use Rattle.proto_model.specs.World.{Setup, SwitchNode, opened};
 ghost use Rattle.proto_model.specs.WorldStep.{world_after};
 ghost use Rattle.proto_safety.specs.CellLaws.{CopiesHaveLast, LeaseBasis};

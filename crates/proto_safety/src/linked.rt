@@ -13,7 +13,7 @@ ghost use Rattle.proto_model.specs.Feeds.{Each};
 ghost use Rattle.proto_model.specs.Legal.{IsLegal};
 ghost use Rattle.proto_model.specs.Pumping.{Received, linked_run};
 ghost use Rattle.proto_model.specs.Lines.{Refused, printed};
-ghost use Rattle.proto_model.specs.Table.{Key};
+ghost use Rattle.key_table.specs.Table.{Key};
 ghost use Rattle.proto_model.specs.World.{Setup, ReplicaNode, opened};
 ghost use Rattle.proto_model.specs.WorldStep.{Refuses, Pumps};
 ghost use Rattle.proto_safety.specs.Books.{In};

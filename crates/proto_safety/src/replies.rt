@@ -4,7 +4,7 @@ ghost use Rattle.std.specs.Prelude.{◌≡◌, ◌≤◌, List, Option, Some, le
 ghost use Rattle.rp_base.specs.declared.node.Node.{Node};
 ghost use Rattle.proto_data.specs.declared.message.Body.{Body};
 ghost use Rattle.proto_data.specs.declared.message.Carried.{Carried};
-ghost use Rattle.proto_model.specs.Table.{Key};
+ghost use Rattle.key_table.specs.Table.{Key};
 ghost use Rattle.rp_base.specs.declared.event.Event.{Event};
 ghost use Rattle.rp_app.specs.Application.{Application, IsApplication};
 ghost use Rattle.proto_data.specs.declared.message.Msg.{Msg};

@@ -4,7 +4,7 @@ ghost use Rattle.std.specs.Prelude.{◌≡◌, List, Some, slice_get, ℕ};
 ghost use Rattle.rp_base.specs.declared.event.Event.{Event};
 ghost use Rattle.rp_app.specs.Application.{Application};
 ghost use Rattle.proto_model.specs.SwitchState.{slot_at};
-ghost use Rattle.proto_model.specs.Table.{Key};
+ghost use Rattle.key_table.specs.Table.{Key};
 ghost use Rattle.proto_model.specs.World.{Setup, SwitchNode, opened};
 ghost use Rattle.proto_model.specs.WorldStep.{world_after};
 ghost use Rattle.proto_safety.specs.LeaseLaws.{NonceAt, NotLater};

@@ -3,11 +3,11 @@ use Rattle.std.proofs.Common.{◌≡◌, ℕ, zero, suc, ◌+◌, ◌≤◌, ◌
 use Rattle.std.specs.List.{position, position_or_len, insert}
 use Rattle.std.proofs.lemmas.Grind.{common_steps}
 use Rattle.std.proofs.lemmas.Bool.{not-true, ltb-true, lt-ltb, leb-true, leb-false, and_parts, and_from, cases_order}
-use Rattle.std.proofs.lemmas.List.{take-append-drop, take-set, drop-set}
+use Rattle.std.proofs.lemmas.List.{take-append-drop, take-set, drop-set, length-set}
 use Rattle.std.proofs.lemmas.List.Sums.{prefix_len_passes}
 use Rattle.std.proofs.lemmas.List.Elements.{All-nil, All-cons, All-head, All-tail}
 use Rattle.std.proofs.lemmas.List.Quantifiers.{position-Some}
-use Rattle.rp_app.specs.Application.{Delta, with_cell, rising, cells_named, IsDelta}
+use Rattle.rp_app.specs.Application.{Delta, with_cell, written, rising, cells_named, IsDelta}
 
 -- ---- one step
 
@@ -118,3 +118,14 @@ with_cell-IsDelta ds cell v h lt =
     let rises = rising_with ds cell v h.rises in
     let within = within_with 256 ds cell v h.within lt in
     record { rises = rises; within = within; short = omega (arith, short_is 256 (cells_named (with_cell ds cell v)) rises within, named_length (with_cell ds cell v)) }
+
+-- a delta changes no length
+pub length-written : (cells : List ℕ) (delta : Delta) → length (written cells delta) ≡ length cells
+length-written cells [] = refl
+length-written cells (d ∷ ds) = length-written (set cells d.0 d.1) ds ∙ length-set cells d.0 d.1
+
+-- a delta that names cells below n writes cells below n
+pub each_below : (n : ℕ) (delta : Delta) → All (λ c. c < n) (cells_named delta) → All (λ (d : ℕ × ℕ). d.0 < n) delta
+each_below n [] h = All-nil (λ (d : ℕ × ℕ). d.0 < n)
+each_below n (d ∷ ds) h =
+    All-cons (λ (d : ℕ × ℕ). d.0 < n) d ds (All-head (λ (c : ℕ). c < n) d.0 (cells_named ds) h) (each_below n ds (All-tail (λ (c : ℕ). c < n) d.0 (cells_named ds) h))

@@ -1,9 +1,9 @@
 //! The cells that a packet wrote.
-ghost use Rattle.std.specs.Prelude.{◌≡◌, ◌<◌, ◌≤◌, ◌↔◌, [], length, slice_get, nat_le, IfOk, OnOk, OnErr, IsNone};
+ghost use Rattle.std.specs.Prelude.{◌≡◌, ◌<◌, ◌≤◌, ◌↔◌, [], length, slice_get, nat_le, All, IfOk, OnOk, OnErr, IsNone};
 ghost use Rattle.std.specs.List.{position};
-ghost use Rattle.rp_app.specs.Application.{with_cell, IsDelta};
+ghost use Rattle.rp_app.specs.Application.{with_cell, written, IsDelta};
 
-use rp_base::NoMemory;
+use rp_base::{Cells, NoMemory};
 use std::alloc::Global;
 use std::marker::Model;
 
@@ -82,6 +82,16 @@ impl Delta {
         ensures delta { IsDelta self.now }
     {
         &self.pairs
+    }
+
+    /// Writes the cells of the delta, each with its value. All of them are there.
+    pub fn write(&self, cells: &mut Cells)
+        requires { All (λ d. d.0 < length cells.old) self.now }
+        ensures { cells.new ≡ written cells.old self.now }
+    {
+        for pair in self.as_slice() {
+            cells.set(pair.0 as u64, pair.1);
+        }
     }
 
     /// Makes the delta empty.

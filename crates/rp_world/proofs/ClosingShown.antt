@@ -5,7 +5,7 @@ use Rattle.rp_world.proofs.ShownLines.{shown-both}
 use Rattle.rp_base.specs.declared.line.Line.{Line as Shown}
 use Rattle.proto_data.specs.declared.message.Record.{Record}
 use Rattle.proto_data.specs.declared.terms.Mode.{Mode}
-use Rattle.proto_model.specs.Table.{Key}
+use Rattle.key_table.specs.Table.{Key}
 use Rattle.proto_model.specs.Committed.{committed_book, committed_records}
 use Rattle.proto_model.specs.EndLines.{flow_lines, end_lines, item_lines}
 use Rattle.proto_model.specs.Lines.{CellsLine, End}

@@ -2,7 +2,7 @@
 use Rattle.std.proofs.Common.{◌≡◌, ℕ, zero, suc, slice_get, List, [], ◌∷◌, ◌++◌, Some, refl, sym, true, false, Bool, map, filter}
 use Rattle.std.specs.Prelude.{if◌then◌else◌}
 use Rattle.std.specs.List.{AllByRecursion}
-use Rattle.proto_model.specs.Table.{Key, Table, same_key, get, put}
+use Rattle.key_table.specs.Table.{Key, Table, same_key, get, put}
 
 pub each_map : {A : Type 0} (P Q : A → Type 0) (f : A → A) → ((x : A) → P x → Q (f x)) → (xs : List A) → AllByRecursion P xs → AllByRecursion Q (map f xs)
 each_map P Q f step [] h = tt

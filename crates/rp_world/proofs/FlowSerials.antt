@@ -3,7 +3,7 @@ use Rattle.std.proofs.Common.{◌≡◌, ℕ, [], ◌∷◌, ◌++◌, List, Opt
 use Rattle.std.specs.Prelude.{if◌then◌else◌, ◌==◌, fold, map, flat_map}
 use Rattle.std.proofs.lemmas.List.{map-append}
 use Rattle.proto_data.specs.declared.message.Entry.{Entry}
-use Rattle.proto_model.specs.Table.{Key, same_key}
+use Rattle.key_table.specs.Table.{Key, same_key}
 use Rattle.proto_model.specs.Records.{Booked}
 use Rattle.proto_model.specs.World.{World, Journaled}
 use Rattle.proto_model.specs.ReplicaRows.{entry_key}

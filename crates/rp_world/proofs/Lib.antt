@@ -1,7 +1,4 @@
 pub mod SwitchRings
-pub mod KeyTables
-pub mod KeyMaps
-pub mod KeyPlaces
 pub mod Stored
 pub mod Worlds
 pub mod EachOf

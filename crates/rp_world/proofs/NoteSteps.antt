@@ -5,7 +5,7 @@ use Rattle.std.specs.Prelude.{◌==◌, flat_map}
 use Rattle.std.proofs.lemmas.List.Elements.{filter_map-append}
 use Rattle.std.proofs.lemmas.Grind.{flat_map-append}
 use Rattle.proto_data.specs.declared.message.Entry.{Entry}
-use Rattle.proto_model.specs.Table.{Key, Table, get, put}
+use Rattle.key_table.specs.Table.{Key, Table, get, put}
 use Rattle.proto_model.specs.SwitchState.{Item}
 use Rattle.proto_model.specs.ReplicaRows.{entry_key}
 use Rattle.rp_world.specs.Endings.{Numbered, Marked, FlowNotes, numbered, marked, notes_or_none, with_entry, with_item, granted_in, is_within, marks_in}

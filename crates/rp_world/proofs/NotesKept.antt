@@ -2,12 +2,12 @@
 use Rattle.std.proofs.Common.{◌≡◌, [], ◌∷◌, ◌++◌, List, refl, sym, ap, ◌∙◌, true, false, Bool, append_assoc, append-nil}
 use Rattle.std.specs.Prelude.{if◌then◌else◌, fold}
 use Rattle.proto_data.specs.declared.message.Entry.{Entry}
-use Rattle.proto_model.specs.Table.{Key, Table, get, same_key}
+use Rattle.key_table.specs.Table.{Key, Table, get, same_key}
 use Rattle.proto_model.specs.Records.{Booked}
 use Rattle.proto_model.specs.SwitchState.{Item}
 use Rattle.proto_model.specs.World.{Journaled}
 use Rattle.proto_model.specs.ReplicaRows.{entry_key}
-use Rattle.proto_safety.proofs.Tables.{same_key-true, get-put_same, get-put_other}
+use Rattle.key_table.proofs.Tables.{same_key-true, get-put_same, get-put_other}
 use Rattle.rp_world.specs.Endings.{Numbered, Marked, FlowNotes, numbered, marked, notes_or_none, with_entry, with_item, noted}
 
 -- the entries and the items of one flow

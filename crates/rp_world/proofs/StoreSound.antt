@@ -13,7 +13,7 @@ use Rattle.proto_data.specs.declared.message.Entry.{Entry}
 use Rattle.proto_data.specs.declared.message.Input.{Input}
 use Rattle.proto_data.specs.declared.message.Msg.{Msg}
 use Rattle.proto_data.specs.declared.message.Record.{Record}
-use Rattle.proto_model.specs.Table.{Key, get}
+use Rattle.key_table.specs.Table.{Key, get}
 use Rattle.proto_model.specs.Records.{Booked, records_of, applied, put_applied, delta_within}
 use Rattle.proto_model.specs.ReplicaState.{Replica, StoreStep, record_at, is_member, is_head, is_tail, predecessor_of}
 use Rattle.proto_model.specs.ReplicaRows.{StoreRow, Loses, Answers, Echoes, Appends, Gathers, AppendsSnap, Commits, Adopts, Resends, busy, switch_of, is_later, own_ask_row, other_ask_row, ask_row, numbered_row, put_row, echoed_row, covered, at_head, store_message_row, with_entry, owner_answer, entry_key, tail_appended, appended_as, appended, store_perform, store_step}
@@ -21,6 +21,7 @@ use Rattle.proto_model.specs.Effects.{added}
 use Rattle.rp_world.specs.OneEach.{IsForSwitch, IsRequest, IsRouted, IsSoundReplica}
 use Rattle.rp_world.specs.Store.{IsForOne}
 use Rattle.rp_world.proofs.EachOf.{each_put, each_get, each_append}
+use Rattle.proto_data.specs.declared.limits.TheConstants.{RECORDS, PENDING}
 
 -- a request is for a replica that is head and tail
 pub request_for_one : (body : Body) → IsRequest body → IsForOne body
@@ -69,7 +70,7 @@ module _ (s : Replica) (from : Node) (own : from ≡ Node.Switch 0) where
 
   row_ask : (inc nonce : ℕ) (key : Key) (load : Option Carried) (o : Option Record) → IsRow (ask_row s 0 from inc nonce key load o)
   row_ask inc nonce key load None =
-      row_if (nat_lt (length s.records) 65536) (Appends (Entry.Grant key 1 (switch_of from) inc nonce) load) (busy from inc nonce key load) number_zero (own, tt)
+      row_if (nat_lt (length s.records) RECORDS) (Appends (Entry.Grant key 1 (switch_of from) inc nonce) load) (busy from inc nonce key load) number_zero (own, tt)
   row_ask inc nonce key load (Some r) =
       let grant = Appends (Entry.Grant key (r.epoch + 1) (switch_of from) inc nonce) load in
       let echo = Echoes (Echoed.Ask (switch_of from) inc nonce key) load in
@@ -216,8 +217,8 @@ module _ (count turns : ℕ) (s : Replica) (book : List Booked) (sound : IsSound
   perform_sound event (Echoes of load) h g = absurd g
   perform_sound event (Appends entry load) h g =
       let same : appended s 0 entry load ≡ tail_appended (with_entry s entry 0) entry load =
-      ap (λ a. appended_as a (is_tail s) (nat_le 256 (length s.pending)) s 0 entry load) member
-      ∙ ap (λ a. appended_as true a (nat_le 256 (length s.pending)) s 0 entry load) tail
+      ap (λ a. appended_as a (is_tail s) (nat_le PENDING (length s.pending)) s 0 entry load) member
+      ∙ ap (λ a. appended_as true a (nat_le PENDING (length s.pending)) s 0 entry load) tail
       in subst (IsSoundStore event) (sym same) (appended_sound event entry load h)
   perform_sound event (Gathers key g) h l = absurd h
   perform_sound event (AppendsSnap key g entry) h l = absurd h

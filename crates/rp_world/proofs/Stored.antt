@@ -4,10 +4,10 @@ use Rattle.std.proofs.lemmas.List.{length-replicate}
 use Rattle.rp_app.specs.Application.{Delta}
 use Rattle.proto_data.specs.declared.message.Record.{Record}
 use Rattle.proto_data.specs.declared.message.Entry.{Entry}
-use Rattle.proto_model.specs.Table.{Key, same_key, get, put}
+use Rattle.key_table.specs.Table.{Key, same_key, get, put}
 use Rattle.proto_model.specs.ReplicaState.{Replica}
 use Rattle.proto_model.specs.Records.{Records, cells_of, put_applied, applied}
-use Rattle.proto_safety.proofs.Tables.{same_key-true, get-put_same, get-put_other, same_some}
+use Rattle.key_table.proofs.Tables.{same_key-true, get-put_same, get-put_other, same_some}
 use Rattle.proto_safety.proofs.SlotCells.{length-written}
 use Rattle.rp_world.specs.Store.{IsRecord, AreRecords}
 

@@ -9,12 +9,13 @@ use Rattle.proto_data.specs.declared.terms.Mode.{Mode}
 use Rattle.rp_app.specs.Application.{Application, Delta}
 use Rattle.proto_data.specs.Carrying.{packet_of}
 use Rattle.proto_model.specs.Ring.{remembers}
-use Rattle.proto_model.specs.Table.{Key}
+use Rattle.key_table.specs.Table.{Key}
 use Rattle.proto_model.specs.Slot.{Slot, Lease, Idle, Asking, Held, Lapsed, is_young}
 use Rattle.proto_model.specs.SwitchState.{Switch, with_slot, slot_at, has_copies, only_dropped}
 use Rattle.proto_model.specs.SwitchRow.{SwitchRow, NewAsk, Stale, Busied, busy_row, carried_row, without_asked, AskAgain, Drops, Direct, Mirrored, Granted, is_clean, process_row, leased_row, processed}
 use Rattle.proto_model.specs.SwitchOutcomes.{perform, after_new_ask, after_ask_again, after_direct, after_mirrored, after_acked, idled}
-use Rattle.rp_world.proofs.KeyTables.{put_put, put_same}
+use Rattle.key_table.proofs.KeyTables.{put_put, put_same}
+use Rattle.proto_data.specs.declared.limits.TheConstants.{COPIES}
 
 pub with_slot_twice : (s : Switch) (key : Key) (a b : Slot) → with_slot (with_slot s key a) key b ≡ with_slot s key b
 with_slot_twice s key a b = ap (λ t. record s { slots = t }) (put_put s.slots key a b)
@@ -44,7 +45,7 @@ idled_over s key v slot = rw put_put refl
 -- a packet that is processed
 pub process_over : (s : Switch) (now : ℕ) (key : Key) (v slot : Slot) (epoch mark : ℕ) (made : Delta × Option Output) →
     perform (with_slot s key v) now (process_row Mode.Strict (with_slot s key v) now key slot epoch mark made) ≡ perform s now (process_row Mode.Strict s now key slot epoch mark made)
-process_over s now key v slot epoch mark made = process_case (nat_le 1024 (length s.copies)) (is_clean made.0 && not (has_copies s key))
+process_over s now key v slot epoch mark made = process_case (nat_le COPIES (length s.copies)) (is_clean made.0 && not (has_copies s key))
   where
     process_case : (a b : Bool) →
         perform (with_slot s key v) now (if a then Drops key slot mark DropCause.Mirror else (if b then Direct key slot epoch mark made.0 made.1 else Mirrored key slot epoch mark made.0 made.1))

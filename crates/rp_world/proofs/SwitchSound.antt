@@ -21,9 +21,10 @@ use Rattle.std.proofs.lemmas.List.Elements.{All-from_recursion}
 use Rattle.rp_world.specs.Steady.{IsSteadyLease, IsSteadySlot, IsSteady}
 use Rattle.rp_world.specs.OneEach.{IsForSwitch, IsRequest, IsRoutedTo, IsRouted, IsSoundSwitch}
 use Rattle.rp_world.specs.SoundRows.{IsSoundRow}
-use Rattle.proto_model.specs.Table.{put}
+use Rattle.key_table.specs.Table.{put}
 use Rattle.rp_world.proofs.EachOf.{each_map, each_weaker, each_append, each_filter, each_put, each_get}
 use Rattle.proto_safety.proofs.SlotCells.{length-written}
+use Rattle.proto_data.specs.declared.limits.TheConstants.{COPIES, SLOTS}
 
 module _ (count : ℕ) where
   abbrev IsSlot : ℕ → Slot → Type 0
@@ -82,7 +83,7 @@ module _ (count : ℕ) where
         let made = app.plain slot.cells p in
         let clean = is_clean made.0 && not (has_copies s key) in
         rw sound.strict
-        (row_if (nat_le 1024 (length s.copies)) (Drops key slot p.mark DropCause.Mirror)
+        (row_if (nat_le COPIES (length s.copies)) (Drops key slot p.mark DropCause.Mirror)
         (if clean then Direct key slot epoch p.mark made.0 made.1 else Mirrored key slot epoch p.mark made.0 made.1)
         h
         (row_if clean (Direct key slot epoch p.mark made.0 made.1) (Mirrored key slot epoch p.mark made.0 made.1) h h))
@@ -95,7 +96,7 @@ module _ (count : ℕ) where
     row_leased key slot p (Lapsed nonce epoch expiry) h = h.last
 
     row_keyed : (p : Packet) (key : List ℕ) (o : Option Slot) → slot_at s key ≡ o → IsRow (keyed_row app s 0 p key o)
-    row_keyed p key None is = row_if (nat_lt (length s.slots) 1024) (NewAsk key fresh_slot p) (NoRoom p.mark) (omega arith) tt
+    row_keyed p key None is = row_if (nat_lt (length s.slots) SLOTS) (NewAsk key fresh_slot p) (NoRoom p.mark) (omega arith) tt
     row_keyed p key (Some slot) is = row_leased key slot p slot.lease (each_get (IsSlot turns) s.slots key slot sound.slots is)
 
     row_packet : (p : Packet) (o : Option (List ℕ)) → IsRow (packet_row app s 0 p o)

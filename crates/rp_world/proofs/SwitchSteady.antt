@@ -1,7 +1,7 @@
 -- What a steady switch knows of the slot and the copies that a step meets.
 use Rattle.std.proofs.Common.{◌≡◌, ℕ, ◌≤◌, suc, Bool, true, false, [], ◌∷◌, List, Option, Some, None, arith, filter, subst}
 use Rattle.std.specs.Prelude.{if◌then◌else◌, nat_le, All, fold, IfSome}
-use Rattle.proto_model.specs.Table.{Key, Table, same_key, get, map_values}
+use Rattle.key_table.specs.Table.{Key, Table, same_key, get, map_values}
 use Rattle.proto_model.specs.Slot.{Slot, Lease, Idle, Asking, Held, Lapsed, lapsed_slot, lapsed_lease}
 use Rattle.proto_model.specs.SwitchState.{Copy, greatest_first, is_covered}
 use Rattle.rp_world.specs.Steady.{IsSteadyLease, IsSteadySlot}

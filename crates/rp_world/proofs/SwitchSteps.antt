@@ -9,7 +9,7 @@ use Rattle.proto_data.specs.declared.message.Carried.{Carried}
 use Rattle.proto_data.specs.declared.message.Config.{Config}
 use Rattle.proto_data.specs.declared.terms.Mode.{Mode}
 use Rattle.rp_app.specs.Application.{Application, zeros}
-use Rattle.proto_model.specs.Table.{Key, Table, put, get, map_values}
+use Rattle.key_table.specs.Table.{Key, Table, put, get, map_values}
 use Rattle.proto_model.specs.Slot.{Slot, Lease, Idle, Asking, Held, Lapsed, is_young, lapsed_slot, fresh_slot}
 use Rattle.proto_model.specs.Ring.{remembers}
 use Rattle.proto_model.specs.SwitchState.{Switch, SwitchDid, SwitchStep, with_slot, slot_at, lapsed, only_released}
@@ -17,6 +17,7 @@ use Rattle.proto_model.specs.SwitchRow.{SwitchRow, NewAsk, NoRoom, Late, Granted
 use Rattle.proto_model.specs.SwitchOutcomes.{perform, late_did}
 use Rattle.proto_model.specs.SwitchRows.{switch_step}
 use Rattle.rp_world.proofs.SwitchOver.{granted_over, idled_over, leased_over, put_back}
+use Rattle.proto_data.specs.declared.limits.TheConstants.{SLOTS}
 
 -- an answer of one step is an answer of an equal one
 pub gives : {E : Type 0} (r : Result SwitchDid E) (new : Switch) (a b : SwitchStep) → a ≡ b → IfOk r (λ did. ◌≡◌ {A = SwitchStep} (new, did) a) → IfOk r (λ did. ◌≡◌ {A = SwitchStep} (new, did) b)
@@ -47,9 +48,9 @@ pub packet_keyless : (app : Application) (s : Switch) (now : ℕ) (packet : Pack
 packet_keyless app s now packet of = sym (ap (λ k. perform (lapsed now s) now (packet_row app (lapsed now s) now packet k)) of)
 
 pub packet_unknown : (app : Application) (s : Switch) (now : ℕ) (packet : Packet) (key : Key) (m : Switch) → m ≡ lapsed now s → app.key_of packet ≡ Some key → slot_at (lapsed now s) key ≡ None →
-    perform m now (if nat_lt (length m.slots) 1024 then NewAsk key fresh_slot packet else NoRoom packet.mark) ≡ switch_step app s now (Input.Packet packet)
+    perform m now (if nat_lt (length m.slots) SLOTS then NewAsk key fresh_slot packet else NoRoom packet.mark) ≡ switch_step app s now (Input.Packet packet)
 packet_unknown app s now packet key m e of at =
-    ap (λ (x : Switch). perform x now (if nat_lt (length x.slots) 1024 then NewAsk key fresh_slot packet else NoRoom packet.mark)) e
+    ap (λ (x : Switch). perform x now (if nat_lt (length x.slots) SLOTS then NewAsk key fresh_slot packet else NoRoom packet.mark)) e
     ∙ sym (ap (λ k. perform (lapsed now s) now (packet_row app (lapsed now s) now packet k)) of ∙ ap (λ o. perform (lapsed now s) now (keyed_row app (lapsed now s) now packet key o)) at)
 
 pub packet_leased : (app : Application) (s : Switch) (now : ℕ) (packet : Packet) (key : Key) (slot a : Slot) (m : Switch) → s.terms.mode ≡ Mode.Strict → m ≡ with_slot (lapsed now s) key a → app.key_of packet ≡ Some key → slot_at (lapsed now s) key ≡ Some slot →

@@ -23,6 +23,7 @@ use Rattle.proto_model.specs.Effects.{added, history_after, switch_lines, store_
 use Rattle.proto_model.specs.Lines.{Refused}
 use Rattle.proto_model.specs.WorldStep.{WorldStep, world_step, next_from, runs_now, node_takes}
 use Rattle.rp_world.specs.OneEach.{one_each, first_passed, IsRouted, IsRoutedTo}
+use Rattle.proto_data.specs.declared.limits.TheConstants.{FRAMES, MESSAGES}
 
 module _ (app : Application) (terms : Terms) (s : Switch) (r : Replica) (book : List Booked) (frames : List Msg) (passed event : ℕ) (h : History) where
   -- the world before the event, and with one more event counted
@@ -53,15 +54,15 @@ module _ (app : Application) (terms : Terms) (s : Switch) (r : Replica) (book : 
   with_fed p = record h { fed = h.fed ++ record { event = event + 1; packet = p } ∷ [] }
 
   -- a packet is fed
-  pub feed-refused : (port : ℕ) (bytes : List ℕ) → nat_lt 65536 (length frames + 64) ≡ true →
+  pub feed-refused : (port : ℕ) (bytes : List ℕ) → nat_lt FRAMES (length frames + MESSAGES) ≡ true →
       world_step app w (Event.Feed port bytes) ≡ (w1, Refused (event + 1) Refusal.FramesFull ∷ [])
   feed-refused port bytes full = rw full refl
 
-  pub feed-fed : (port : ℕ) (bytes : List ℕ) → nat_lt 65536 (length frames + 64) ≡ false →
+  pub feed-fed : (port : ℕ) (bytes : List ℕ) → nat_lt FRAMES (length frames + MESSAGES) ≡ false →
       world_step app w (Event.Feed port bytes) ≡ after_switch passed (with_fed (fed_packet port bytes)) (switch_step app s 0 (Input.Packet (fed_packet port bytes)))
   feed-fed port bytes full = rw (full, mod-one (key_sum (app.key_of (fed_packet port bytes)))) refl
 
-  pub next-refused : nat_lt 65536 (length frames + 64) ≡ true → world_step app w Event.Next ≡ (w1, Refused (event + 1) Refusal.FramesFull ∷ [])
+  pub next-refused : nat_lt FRAMES (length frames + MESSAGES) ≡ true → world_step app w Event.Next ≡ (w1, Refused (event + 1) Refusal.FramesFull ∷ [])
   next-refused full = rw full refl
 
   runs : (to : Node) (m : Msg) → IsRoutedTo to m.from m.body → runs_now w1 to ≡ true
@@ -98,7 +99,7 @@ module _ (app : Application) (terms : Terms) (s : Switch) (r : Replica) (book : 
   next_first h = let all : passed - 0 ≡ passed = omega arith in next_is 0 frames (omega arith) h ∙ ap (λ k. option_map (λ (m : Msg). (passed, m)) (slice_get frames k)) all
 
   -- no frame is left
-  pub next-none : nat_lt 65536 (length frames + 64) ≡ false → AllByRecursion IsRouted frames → slice_get frames passed ≡ None →
+  pub next-none : nat_lt FRAMES (length frames + MESSAGES) ≡ false → AllByRecursion IsRouted frames → slice_get frames passed ≡ None →
       world_step app w Event.Next ≡ (w1, Refused (event + 1) Refusal.NoneLeft ∷ [])
   next-none full h none = rw (full, next_first h, none) refl
 
@@ -106,18 +107,18 @@ module _ (app : Application) (terms : Terms) (s : Switch) (r : Replica) (book : 
   abbrev w2 : World
   w2 = one_each terms s r book frames (passed + 1) (event + 1) h
 
-  next_some : (m : Msg) → nat_lt 65536 (length frames + 64) ≡ false → AllByRecursion IsRouted frames → slice_get frames passed ≡ Some m → world_step app w Event.Next ≡ node_takes app w2 m.to (Input.Msg m)
+  next_some : (m : Msg) → nat_lt FRAMES (length frames + MESSAGES) ≡ false → AllByRecursion IsRouted frames → slice_get frames passed ≡ Some m → world_step app w Event.Next ≡ node_takes app w2 m.to (Input.Msg m)
   next_some m full h is = let more : passed + 1 ≡ suc passed = omega arith in rw (full, next_first h, is, more) refl
 
   -- the next frame goes to the switch
-  pub next-switch : (m : Msg) (n : ℕ) → nat_lt 65536 (length frames + 64) ≡ false → AllByRecursion IsRouted frames → slice_get frames passed ≡ Some m → m.to ≡ Node.Switch n → n ≡ 0 →
+  pub next-switch : (m : Msg) (n : ℕ) → nat_lt FRAMES (length frames + MESSAGES) ≡ false → AllByRecursion IsRouted frames → slice_get frames passed ≡ Some m → m.to ≡ Node.Switch n → n ≡ 0 →
       world_step app w Event.Next ≡ after_switch (passed + 1) h (switch_step app s 0 (Input.Msg m))
   next-switch m n full h is to at =
       let there : m.to ≡ Node.Switch 0 = to ∙ ap (λ k. Node.Switch k) at in
       next_some m full h is ∙ ap (λ t. node_takes app w2 t (Input.Msg m)) there
 
   -- the next frame goes to the replica
-  pub next-store : (m : Msg) (n : ℕ) → nat_lt 65536 (length frames + 64) ≡ false → AllByRecursion IsRouted frames → slice_get frames passed ≡ Some m → m.to ≡ Node.Replica n → n ≡ 0 →
+  pub next-store : (m : Msg) (n : ℕ) → nat_lt FRAMES (length frames + MESSAGES) ≡ false → AllByRecursion IsRouted frames → slice_get frames passed ≡ Some m → m.to ≡ Node.Replica n → n ≡ 0 →
       world_step app w Event.Next ≡ after_store (passed + 1) (store_step r 0 (Input.Msg m))
   next-store m n full h is to at =
       let there : m.to ≡ Node.Replica 0 = to ∙ ap (λ k. Node.Replica k) at in

@@ -3,7 +3,7 @@ use Rattle.std.specs.Prelude.{ℕ, Bool, true, false, ◌&&◌, ◌==◌, List, 
 use Rattle.rp_base.specs.declared.line.Line.{Line as Shown}
 use Rattle.proto_data.specs.declared.message.Entry.{Entry}
 use Rattle.proto_data.specs.declared.message.Record.{Record}
-use Rattle.proto_model.specs.Table.{Key, Table, get, put}
+use Rattle.key_table.specs.Table.{Key, Table, get, put}
 use Rattle.proto_model.specs.Committed.{greater}
 use Rattle.proto_model.specs.Records.{Booked}
 use Rattle.proto_model.specs.SwitchState.{Item}

@@ -1,6 +1,6 @@
 -- When the leases of slots end.
 use Rattle.std.specs.Prelude.{ℕ, ◌≤◌, [], ◌∷◌}
-use Rattle.proto_model.specs.Table.{Table}
+use Rattle.key_table.specs.Table.{Table}
 use Rattle.proto_model.specs.Slot.{Slot, Lease, Idle, Asking, Held, Lapsed}
 
 -- a lease that is held ends at this moment or later

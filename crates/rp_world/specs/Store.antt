@@ -2,7 +2,7 @@
 use Rattle.std.specs.Prelude.{ℕ, ◌≡◌, ◌≤◌, length, Some}
 use Rattle.proto_data.specs.declared.message.Body.{Body}
 use Rattle.proto_data.specs.declared.message.Record.{Record}
-use Rattle.proto_model.specs.Table.{Key, get}
+use Rattle.key_table.specs.Table.{Key, get}
 use Rattle.proto_model.specs.Records.{Records}
 
 -- a record has as many cells as the application, and an epoch for each of its grants

@@ -1,7 +1,7 @@
 //! The lines that a report ends with.
 ghost use Rattle.std.specs.Prelude.{◌≡◌, ◌++◌, IfOk, OnOk, flat_map};
 ghost use Rattle.rp_world.specs.Endings.{noted, notes_or_none, serial_in, flow_shown, closing_shown};
-ghost use Rattle.proto_model.specs.Table.{get};
+ghost use Rattle.key_table.specs.Table.{get};
 
 use crate::flow_notes::Flows;
 use crate::history::Journaled;

@@ -2,7 +2,7 @@
 ghost use Rattle.std.specs.Prelude.{◌≡◌, ◌++◌, [], ◌∷◌, Option, IfOk, OnOk};
 ghost use Rattle.std.specs.Option.{option_copied};
 ghost use Rattle.proto_model.specs.ReplicaRows.{entry_key};
-ghost use Rattle.proto_model.specs.Table.{get};
+ghost use Rattle.key_table.specs.Table.{get};
 ghost use Rattle.rp_world.specs.Endings.{numbered, with_entry, with_item, closing_in, is_within, marks_in, serial_in};
 
 use crate::switch_did::Item;
@@ -183,7 +183,7 @@ pub(crate) struct Flows {
 }
 
 impl Model for Flows {
-    ghost use Rattle.proto_model.specs.Table.{Table};
+    ghost use Rattle.key_table.specs.Table.{Table};
     ghost use Rattle.rp_world.specs.Endings.{FlowNotes as FlowNotesValue};
 
     ghost Value = { Table FlowNotesValue };

@@ -2,11 +2,10 @@
 ghost use Rattle.std.specs.Prelude.{◌≡◌, ◌<◌, [], length, All, Some, OnOk, OnErr, option_map, slice_get};
 ghost use Rattle.std.specs.Map.Iter.{deref_pair};
 ghost use Rattle.std.specs.Option.{option_copied};
-ghost use Rattle.rp_app.specs.Application.{written};
 ghost use Rattle.proto_data.specs.declared.message.Entry.{Entry as EntryValue};
 ghost use Rattle.proto_data.specs.declared.message.Record.{Record as RecordValue};
 ghost use Rattle.proto_model.specs.Records.{applied};
-ghost use Rattle.proto_model.specs.Table.{get};
+ghost use Rattle.key_table.specs.Table.{get};
 
 use indexmap::IndexMap;
 use proto_model::Record;
@@ -14,16 +13,6 @@ use rp_app::Delta;
 use rp_base::{Cells, Key, NoMemory};
 use std::alloc::Global;
 use std::marker::Model;
-
-/// Writes the cells of a delta.
-pub(crate) fn write(cells: &mut Cells, delta: &Delta)
-    requires { All (λ d. d.0 < length cells.old) delta.now }
-    ensures { cells.new ≡ written cells.old delta.now }
-{
-    for pair in delta.as_slice() {
-        cells.set(pair.0 as u64, pair.1);
-    }
-}
 
 /// The record of each flow, in order of first grant.
 #[derive(Drop)]
@@ -33,7 +22,7 @@ pub(crate) struct Records {
 
 impl Model for Records {
     ghost use Rattle.proto_data.specs.declared.message.Record.{Record as RecordValue};
-    ghost use Rattle.proto_model.specs.Table.{Table};
+    ghost use Rattle.key_table.specs.Table.{Table};
 
     ghost Value = { Table RecordValue };
 
@@ -119,7 +108,7 @@ impl Records {
     {
         if let Some(i) = self.rows.get_index_of(key) {
             let record = &mut self.rows[i];
-            write(&mut record.cells, delta);
+            delta.write(&mut record.cells);
             record.last = number;
             record.moment = now;
         }

@@ -8,14 +8,12 @@ ghost use Rattle.proto_model.specs.Records.{delta_within};
 
 use crate::records::Records;
 use crate::store_did::{StoreDid, copy_load};
+use proto_data::RECORDS;
 use proto_model::{Body, Carried, Echoed, Entry, Msg, Terms};
 use rp_app::Delta;
 use rp_base::{Key, Lost, NoMemory, Node};
 use std::alloc::Global;
 use std::marker::Model;
-
-/// How many flows may have a record.
-const RECORDS: u64 = 65536;
 
 /// The number of a switch; 0 for any other node.
 fn switch_of(node: Node) -> u8
@@ -329,7 +327,7 @@ impl Replica {
     {
         let switch = switch_of(from);
         let Some(record) = self.records.get(key) else {
-            if self.records.len() < RECORDS {
+            if self.records.len() < RECORDS as u64 {
                 return self.grant(now, key, 1, switch, inc, nonce, load);
             }
             return self.busy(from, inc, nonce, key, load);

@@ -14,17 +14,12 @@ use crate::history::History;
 use crate::replica::Replica;
 use crate::step_notes::{Booked, note_store, note_switch, refused};
 use crate::switch::Switch;
+use proto_data::{FRAMES, MESSAGES};
 use proto_model::{Chain, Config, Terms};
 use rp_app::App;
 use rp_base::{Bytes, Lines, NoMemory, Node, Packet, Refusal};
 use std::alloc::Global;
 use std::marker::Model;
-
-/// How many frames a run may have.
-const FRAMES: usize = 65536;
-
-/// How many frames one event may send.
-const FRAMES_AN_EVENT: usize = 64;
 
 /// The world of one switch and one replica, both running from the start, whose clocks stand at 0.
 #[derive(Drop)]
@@ -127,7 +122,7 @@ impl Run {
         ensures going { OnOk result (IsGoing (A.meaning app.now) self.new) }
     {
         self.event += 1;
-        if self.frames.len() > FRAMES - FRAMES_AN_EVENT {
+        if self.frames.len() > FRAMES - MESSAGES {
             return refused(self.alloc, self.event, Refusal::FramesFull);
         }
         let packet = Packet {
@@ -157,7 +152,7 @@ impl Run {
         ensures going { OnOk result (IsGoing (A.meaning app.now) self.new) }
     {
         self.event += 1;
-        if self.frames.len() > FRAMES - FRAMES_AN_EVENT {
+        if self.frames.len() > FRAMES - MESSAGES {
             return refused(self.alloc, self.event, Refusal::FramesFull);
         }
         let Some(msg) = self.frames.message(self.passed)? else {

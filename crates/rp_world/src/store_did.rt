@@ -53,7 +53,7 @@ impl StoreDid {
     }
 }
 
-/// An equal packet or output that rides on a message.
+/// An equal packet or output that rides on a message, if there is one.
 ///
 /// # Errors
 /// `NoMemory`.
@@ -61,11 +61,7 @@ pub(crate) fn copy_load(load: &Option<Carried>) -> Result<Option<Carried>, NoMem
     ensures { IfOk result (λ copied. copied ≡ load.now) }
 {
     match load {
-        Some(carried) => Ok(Some(Carried {
-            mark: carried.mark,
-            port: carried.port,
-            bytes: carried.bytes.copy()?,
-        })),
+        Some(carried) => Ok(Some(carried.copy()?)),
         None => Ok(None),
     }
 }

@@ -1,7 +1,7 @@
 //! What a switch does in each row of its table.
 ghost use Rattle.std.specs.Prelude.{◌≡◌, ◌≤◌, ◌<◌, ◌^◌, [], All, IfOk, OnOk, length, option_map};
 ghost use Rattle.rp_app.specs.Application.{cells_named};
-ghost use Rattle.proto_data.specs.Carrying.{carried_output, carried_packet, packet_of};
+ghost use Rattle.proto_data.specs.Carrying.{carried_output};
 ghost use Rattle.proto_model.specs.Slot.{Idle};
 ghost use Rattle.proto_model.specs.SwitchRow.{is_clean};
 ghost use Rattle.proto_model.specs.SwitchState.{only_dropped, only_lost};
@@ -10,52 +10,11 @@ use crate::switch::Switch;
 use crate::switch_copies::PutCopy;
 use crate::switch_did::{Item, SwitchDid};
 use crate::switch_slot::Slot;
+use proto_data::COPIES;
 use proto_model::{Body, Carried, Msg};
 use rp_app::{App, Delta};
 use rp_base::{DropCause, Key, NoMemory, Node, Output, Packet};
 use std::alloc::Global;
-
-/// A packet as it rides on a message.
-///
-/// # Errors
-/// `NoMemory`.
-pub(crate) fn carried(packet: &Packet) -> Result<Carried, NoMemory>
-    ensures { IfOk result (λ made. made ≡ carried_packet packet.now) }
-{
-    Ok(Carried {
-        mark: packet.mark,
-        port: packet.port,
-        bytes: packet.bytes.copy()?,
-    })
-}
-
-/// The packet that rides on a message.
-///
-/// # Errors
-/// `NoMemory`.
-pub(crate) fn packet_in(carried: &Carried) -> Result<Packet, NoMemory>
-    ensures { IfOk result (λ made. made ≡ packet_of carried.now) }
-{
-    Ok(Packet {
-        mark: carried.mark,
-        port: carried.port,
-        bytes: carried.bytes.copy()?,
-    })
-}
-
-// An output as it rides on a message.
-fn carried_out(out: Option<Output>) -> Option<Carried>
-    ensures { result ≡ option_map carried_output out }
-{
-    match out {
-        Some(out) => Some(Carried {
-            mark: out.mark,
-            port: out.port,
-            bytes: out.bytes,
-        }),
-        None => None,
-    }
-}
 
 // Whether a packet wrote nothing.
 fn wrote_nothing(delta: &Delta) -> bool
@@ -109,7 +68,7 @@ impl Switch {
             inc: self.inc,
             nonce: self.nonces,
             key: *key,
-            load: Some(carried(packet)?),
+            load: Some(Carried::of_packet(packet)?),
         };
         slot.ask(self.nonces, now, packet.mark)?;
         self.copies.give_up(key);
@@ -134,7 +93,7 @@ impl Switch {
             inc: self.inc,
             nonce,
             key: *key,
-            load: Some(carried(packet)?),
+            load: Some(Carried::of_packet(packet)?),
         };
         slot.ask_again(packet.mark)?;
         self.slots.put(*key, slot)?;
@@ -201,7 +160,7 @@ impl Switch {
             number,
             key: *key,
             delta,
-            load: carried_out(out),
+            load: out.map(Carried::of_output),
         };
         let mut did = SwitchDid::sent(self.alloc, self.to_head(body))?;
         did.item = Some(Item {
@@ -232,7 +191,7 @@ impl Switch {
         requires room { slot.last ≤ 2 ^ 63 }
         ensures { IfOk result (λ did. (self.new, did) ≡ perform self.old now (process_row ModeValue.Strict self.old now key.now slot epoch packet.now.mark ((A.meaning app.now).plain slot.cells packet.now))) }
     {
-        if self.copies.len() >= 1024 {
+        if self.copies.len() >= COPIES as u64 {
             self.slots.put(*key, slot)?;
             return Ok(SwitchDid::dropped(self.alloc, packet.mark, DropCause::Mirror));
         }

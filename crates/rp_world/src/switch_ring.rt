@@ -2,6 +2,7 @@
 ghost use Rattle.std.specs.Prelude.{◌≡◌, [], OnOk};
 ghost use Rattle.proto_model.specs.Ring.{holds, remember, remembers, forget};
 
+use proto_data::MARKS;
 use rp_base::NoMemory;
 use std::alloc::Global;
 use std::marker::Model;
@@ -30,8 +31,6 @@ fn is_at(mark: u64, place: &Option<u64>) -> bool
 }
 
 impl Ring {
-    const ROOM: usize = 64;
-
     /// No marks. Takes no memory.
     pub(crate) fn new(alloc: Global) -> Ring
         ensures { result ≡ [] }
@@ -60,7 +59,7 @@ impl Ring {
     pub(crate) fn remember(&mut self, mark: u64) -> Result<(), NoMemory>
         ensures { OnOk result (self.new ≡ remember self.old mark) }
     {
-        if self.places.len() >= Ring::ROOM {
+        if self.places.len() >= MARKS {
             self.places.remove(0);
         }
         self.places.push(Some(mark))?;

@@ -9,10 +9,10 @@ ghost use Rattle.rp_world.specs.Lease.{lease_of};
 ghost use Rattle.rp_world.specs.Steady.{IsSteadyLease};
 
 use crate::switch::Switch;
-use crate::switch_acts::packet_in;
 use crate::switch_did::SwitchDid;
 use crate::switch_lease::{LeaseState, young};
 use crate::switch_slot::Slot;
+use proto_data::SLOTS;
 use proto_model::Carried;
 use rp_app::{App, Delta};
 use rp_base::{Cells, DropCause, Key, NoMemory, Packet};
@@ -71,9 +71,9 @@ impl Switch {
         packet: &Packet,
     ) -> Result<SwitchDid, NoMemory>
         requires room { self.old.nonces ≤ 2 ^ 63 }
-        ensures { IfOk result (λ did. (self.new, did) ≡ perform self.old now (if nat_lt (length self.old.slots) 1024 then NewAsk key.now fresh_slot packet.now else NoRoom packet.now.mark)) }
+        ensures { IfOk result (λ did. (self.new, did) ≡ perform self.old now (if nat_lt (length self.old.slots) SLOTS then NewAsk key.now fresh_slot packet.now else NoRoom packet.now.mark)) }
     {
-        if self.slots.len() < 1024 {
+        if self.slots.len() < SLOTS as u64 {
             self.new_ask(now, key, Slot::fresh(self.alloc), packet)
         } else {
             Ok(SwitchDid::dropped(self.alloc, packet.mark, DropCause::Full))
@@ -130,7 +130,7 @@ impl Switch {
         ensures { IfOk result (λ did. (self.new, did) ≡ perform self.old now (process_row ModeValue.Strict self.old now key.now (without_asked slot carried.now.mark) epoch carried.now.mark ((A.meaning app.now).plain slot.cells (packet_of carried.now)))) }
     {
         slot.forget_asked(carried.mark);
-        let packet = packet_in(carried)?;
+        let packet = carried.packet()?;
         self.process(app, now, key, slot, epoch, &packet)
     }
 

@@ -38,16 +38,6 @@ impl Model for Slot {
     ghost view = { λ s. record { lease = lease_of s.lease; cells = s.cells; last = s.last; used = s.used; asked = s.asked; held = s.held; round = None; ages = no_ages } };
 }
 
-/// Writes a delta into cells.
-pub(crate) fn write(cells: &mut Cells, delta: &Delta)
-    requires { All (λ c. c < length cells.old) (cells_named delta.now) }
-    ensures { cells.new ≡ written cells.old delta.now }
-{
-    for pair in delta.as_slice() {
-        cells.set(pair.0 as u64, pair.1);
-    }
-}
-
 impl Slot {
     /// A slot that is Idle, of a flow that nothing is known of. Takes no memory.
     pub(crate) fn fresh(alloc: Global) -> Slot
@@ -154,7 +144,7 @@ impl Slot {
         requires { All (λ c. c < length self.old.cells) (cells_named delta.now) }
         ensures { self.new ≡ record self.old { cells = written self.old.cells delta.now; used = true } }
     {
-        write(&mut self.cells, delta);
+        delta.write(&mut self.cells);
         self.used = true;
     }
 
@@ -167,7 +157,7 @@ impl Slot {
         requires room { self.old.last ≤ 2 ^ 63 }
         ensures { OnOk result (self.new ≡ record self.old { cells = written self.old.cells delta.now; last = self.old.last + 1; used = true; held = remember_output self.old.held out.now }) }
     {
-        write(&mut self.cells, delta);
+        delta.write(&mut self.cells);
         self.last += 1;
         self.used = true;
         if let Some(out) = out {
@@ -211,11 +201,7 @@ impl Slot {
         if !self.held.remembers(carried.mark) {
             return Ok(None);
         }
-        let out = Output {
-            mark: carried.mark,
-            port: carried.port,
-            bytes: carried.bytes.copy()?,
-        };
+        let out = carried.output()?;
         self.held.forget(carried.mark);
         Ok(Some(out))
     }

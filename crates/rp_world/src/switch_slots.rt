@@ -1,6 +1,6 @@
 //! The slots of a switch, by key, in order of making.
 ghost use Rattle.std.specs.Prelude.{◌≡◌, [], length, IsSome, IsNone, OnOk};
-ghost use Rattle.proto_model.specs.Table.{get, map_values, put};
+ghost use Rattle.key_table.specs.Table.{get, map_values, put};
 ghost use Rattle.proto_model.specs.Slot.{fresh_slot, lapsed_slot};
 ghost use Rattle.rp_world.specs.SlotEnds.{AllEndFrom};
 
@@ -22,7 +22,7 @@ pub(crate) struct Slots {
 
 impl Model for Slots {
     ghost use Rattle.proto_model.specs.Slot.{Slot as SlotValue};
-    ghost use Rattle.proto_model.specs.Table.{Table};
+    ghost use Rattle.key_table.specs.Table.{Table};
 
     ghost Value = { Table SlotValue };
 

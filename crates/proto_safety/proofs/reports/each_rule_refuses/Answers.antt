@@ -1,7 +1,7 @@
 use Rattle.std.proofs.Common.{◌≡◌, ℕ, ◌<◌, List, [], ◌∷◌, Option, Some, None, inl, inr, refl, sym, ap, subst, arith}
 use Rattle.rp_base.specs.declared.event.Event.{Event}
 use Rattle.rp_app.specs.Application.{counting}
-use Rattle.proto_model.specs.Table.{Key}
+use Rattle.key_table.specs.Table.{Key}
 use Rattle.proto_model.specs.Legal.{IsOutputIn, StandsIn, ReleasedBefore, folded, marks_before, marks_of}
 use Rattle.std.specs.Prelude.{slice_index}
 use Rattle.rp_base.specs.declared.node.Output.{Output}

@@ -1,5 +1,5 @@
 use Rattle.std.proofs.Common.{◌≡◌, take}
-use Rattle.proto_model.specs.Table.{map_values}
+use Rattle.key_table.specs.Table.{map_values}
 use Rattle.proto_model.specs.Slot.{lapsed_slot}
 use Rattle.rp_world.specs.SlotEnds.{AllEndFrom}
 use Rattle.rp_world.proofs.SlotEnds.{lapsed_to}

@@ -1,7 +1,7 @@
 use Rattle.std.proofs.Common.{◌∙◌, refl, sym, ap}
 use Rattle.rp_world.specs.Endings.{notes_or_none}
-use Rattle.rp_world.proofs.KeyPlaces.{at_place, no_place}
-use Rattle.rp_world.proofs.KeyMaps.{insert_put}
+use Rattle.key_table.proofs.KeyPlaces.{at_place, no_place}
+use Rattle.key_table.proofs.KeyMaps.{insert_put}
 use Rattle.rp_world.proofs.NoteSteps.{entry_stored}
 use Rattle.rp_world.proofs.flow_notes.Flows.note_entry.Goals as goal
 

@@ -1,8 +1,8 @@
 use Rattle.std.proofs.Common.{◌∙◌, refl, sym, ap}
 use Rattle.proto_model.specs.SwitchState.{Item}
 use Rattle.rp_world.specs.Endings.{notes_or_none, marked}
-use Rattle.rp_world.proofs.KeyPlaces.{at_place, no_place}
-use Rattle.rp_world.proofs.KeyMaps.{insert_put}
+use Rattle.key_table.proofs.KeyPlaces.{at_place, no_place}
+use Rattle.key_table.proofs.KeyMaps.{insert_put}
 use Rattle.rp_world.proofs.NoteSteps.{item_stored}
 use Rattle.rp_world.proofs.flow_notes.Flows.note_item.Goals as goal
 

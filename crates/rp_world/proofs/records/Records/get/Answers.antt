@@ -1,6 +1,6 @@
 use Rattle.std.proofs.Common.{◌∙◌, ap}
-use Rattle.proto_model.specs.Table.{get}
-use Rattle.rp_world.proofs.KeyMaps.{lookup_get}
+use Rattle.key_table.specs.Table.{get}
+use Rattle.key_table.proofs.KeyMaps.{lookup_get}
 use Rattle.rp_world.proofs.records.Records.get.Goals as goal
 
 pub returns : goal.returns

@@ -1,6 +1,6 @@
 use Rattle.std.proofs.Common.{◌∙◌, sym}
-use Rattle.rp_world.proofs.KeyPlaces.{at_place, no_place}
-use Rattle.rp_world.proofs.KeyMaps.{insert_put}
+use Rattle.key_table.proofs.KeyPlaces.{at_place, no_place}
+use Rattle.key_table.proofs.KeyMaps.{insert_put}
 use Rattle.rp_world.proofs.records.Records.grant.Goals as goal
 
 pub returns-in-Some-clause-ok : goal.returns-in-Some-clause-ok

@@ -1,5 +1,5 @@
 use Rattle.std.proofs.Common.{sym}
-use Rattle.rp_world.proofs.KeyPlaces.{at_place, no_place}
+use Rattle.key_table.proofs.KeyPlaces.{at_place, no_place}
 use Rattle.rp_world.proofs.records.Records.put.Goals as goal
 
 pub write-requires : goal.write-requires

@@ -1,7 +1,7 @@
 use Rattle.std.proofs.Common.{◌∙◌, ap}
 use Rattle.proto_model.specs.SwitchState.{is_of}
-use Rattle.proto_safety.proofs.Tables.{same_key-sym}
-use Rattle.rp_world.proofs.KeyMaps.{key_eq-same}
+use Rattle.key_table.proofs.Tables.{same_key-sym}
+use Rattle.key_table.proofs.KeyMaps.{key_eq-same}
 use Rattle.rp_world.proofs.switch_copies.PutCopy.is_of.Goals as goal
 
 pub returns : goal.returns

@@ -1,5 +1,5 @@
 use Rattle.std.proofs.Common.{◌≡◌, sym, subst, arith}
-use Rattle.proto_model.specs.Table.{Table, map_values}
+use Rattle.key_table.specs.Table.{Table, map_values}
 use Rattle.proto_model.specs.Slot.{Slot, lapsed_slot}
 use Rattle.rp_world.proofs.SlotEnds.{none_ended}
 use Rattle.rp_world.proofs.switch_slots.Slots.lapse.Goals as goal

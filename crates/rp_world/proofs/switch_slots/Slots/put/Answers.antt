@@ -1,6 +1,6 @@
 use Rattle.std.proofs.Common.{◌∙◌, ap}
-use Rattle.proto_model.specs.Table.{put}
-use Rattle.rp_world.proofs.KeyMaps.{insert_put}
+use Rattle.key_table.specs.Table.{put}
+use Rattle.key_table.proofs.KeyMaps.{insert_put}
 use Rattle.rp_world.proofs.SlotEnds.{ends_stored}
 use Rattle.rp_world.proofs.switch_slots.Slots.put.Goals as goal
 

@@ -1,9 +1,9 @@
 use Rattle.std.proofs.Common.{◌≡◌, ◌∙◌, ap, sym, subst, Some, MutBor}
 use Rattle.std.proofs.lemmas.Bool.{false≢true}
 use Rattle.std.specs.Option.{option_copied_mut, IsSome}
-use Rattle.proto_model.specs.Table.{get, put}
+use Rattle.key_table.specs.Table.{get, put}
 use Rattle.proto_model.specs.Slot.{fresh_slot, Slot as SlotValue}
-use Rattle.rp_world.proofs.KeyMaps.{lookup_get, set_put}
+use Rattle.key_table.proofs.KeyMaps.{lookup_get, set_put}
 use Rattle.rp_world.proofs.SlotEnds.{ends_put}
 use Rattle.rp_world.proofs.switch_slots.Slots.take.Goals as goal
 use Rattle.rp_world.proofs.switch_slots.Slots.take.Goals.{in-Some, in-None}

@@ -6,8 +6,8 @@ use Rattle.std.specs.Map.{lookup, set_value}
 use Rattle.std.proofs.Math.Seq.{take-append_seam}
 use Rattle.std.proofs.lemmas.Bool.{and_parts, and_from, false≢true}
 use Rattle.indexmap.specs.IndexMap.{insert_entry}
-use Rattle.proto_model.specs.Table.{Key, Table, same_key, get, put}
-use Rattle.proto_safety.proofs.Tables.{same_key-refl, same_key-true}
+use Rattle.key_table.specs.Table.{Key, Table, same_key, get, put}
+use Rattle.key_table.proofs.Tables.{same_key-refl, same_key-true}
 
 -- the bytes of a key in its 16 places
 abbrev filled : Key → List ℕ

@@ -1,8 +1,8 @@
 -- Values by key: the second of two puts stands, and what is there may be put again.
 use Rattle.std.proofs.Common.{◌≡◌, Bool, true, false, [], ◌∷◌, Some, refl, ap, sym}
 use Rattle.std.specs.Prelude.{if◌then◌else◌}
-use Rattle.proto_model.specs.Table.{Key, Table, same_key, get, put}
-use Rattle.proto_safety.proofs.Tables.{same_key-refl, same_key-true}
+use Rattle.key_table.specs.Table.{Key, Table, same_key, get, put}
+use Rattle.key_table.proofs.Tables.{same_key-refl, same_key-true}
 
 -- the second of two puts stands
 pub put_put : {V : Type 0} (t : Table V) (k : Key) (a b : V) → put (put t k a) k b ≡ put t k b

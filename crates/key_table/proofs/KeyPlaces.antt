@@ -4,8 +4,8 @@ use Rattle.std.proofs.lemmas.Bool.{false≢true}
 use Rattle.std.specs.Map.{keys_of, values_of, lookup}
 use Rattle.indexmap.specs.IndexMap.{set_value_at}
 use Rattle.indexmap.proofs.MapLemmas.{insert_entry-first, Found-position}
-use Rattle.proto_model.specs.Table.{Key, Table, get, put}
-use Rattle.rp_world.proofs.KeyMaps.{key_eq, lookup_get, insert_put}
+use Rattle.key_table.specs.Table.{Key, Table, get, put}
+use Rattle.key_table.proofs.KeyMaps.{key_eq, lookup_get, insert_put}
 
 -- writing at the place of a key
 set-put : {V : Type 0} (t : Table V) (k : Key) (i : ℕ) (v : V) → position (key_eq k) (keys_of t) ≡ Some i → set_value_at t i v ≡ put t k v

@@ -1,0 +1,4 @@
+pub mod Tables
+pub mod KeyTables
+pub mod KeyMaps
+pub mod KeyPlaces

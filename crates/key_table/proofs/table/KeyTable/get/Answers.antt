@@ -1,0 +1,7 @@
+use Rattle.std.proofs.Common.{◌∙◌, ap}
+use Rattle.key_table.specs.Table.{get}
+use Rattle.key_table.proofs.KeyMaps.{lookup_get}
+use Rattle.key_table.proofs.table.KeyTable.get.Goals as goal
+
+pub returns : goal.returns
+returns g c = c.get.ensures.value ∙ lookup_get c.self.inside.rows.entries c.args.key.now ∙ ap (λ t. get t c.args.key.now) c.self.view_is
