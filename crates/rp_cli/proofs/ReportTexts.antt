@@ -16,8 +16,8 @@ use Rattle.proto_model.specs.EndLines.{end_lines}
 use Rattle.rp_frame.specs.Spelling.{kind}
 use Rattle.rp_world.specs.declared.world.Setup.{Setup}
 use Rattle.rp_world.specs.Running.{line_of, shown, stepped}
-use Rattle.run_report.specs.Report.{NamesKind, line_text, lines_text}
-use Rattle.rp_cli.specs.Reports.{report_text, running_text, running_texts, unlinked}
+use Rattle.run_report.specs.Report.{NamesKind}
+use Rattle.rp_cli.specs.Reports.{line_written, lines_written, report_text, running_text, running_texts, unlinked}
 
 -- the text of the lines from this place on
 pub running_texts-drop : (frames : Bool) (lines : List Shown) (i : ℕ) (l : Shown) → i < length lines → l ≡ get_or lines i l → running_texts frames (drop i lines) ≡ running_text frames l ++ running_texts frames (drop (i + 1) lines)
@@ -26,19 +26,19 @@ running_texts-drop frames lines i l within e =
     ap (running_texts frames) cut
 
 -- what is written of a run's lines is the text of those that its report has
-written : (frames : Bool) (ls : List Line) → lines_text (shown (if frames then ls else without_sends ls)) ≡ running_texts frames (shown ls)
+written : (frames : Bool) (ls : List Line) → lines_written (shown (if frames then ls else without_sends ls)) ≡ running_texts frames (shown ls)
 written true ls = refl
 written false [] = refl
 written false (Send event frame from to named m ∷ ls) = written false ls
-written false (Release event mark port bytes ∷ ls) = ap (λ text. line_text (line_of (Release event mark port bytes)) ++ text) (written false ls)
-written false (Dropped event mark cause ∷ ls) = ap (λ text. line_text (line_of (Dropped event mark cause)) ++ text) (written false ls)
-written false (LostLine event cause ∷ ls) = ap (λ text. line_text (line_of (LostLine event cause)) ++ text) (written false ls)
-written false (Refused event cause ∷ ls) = ap (λ text. line_text (line_of (Refused event cause)) ++ text) (written false ls)
-written false (Stranger event node ∷ ls) = ap (λ text. line_text (line_of (Stranger event node)) ++ text) (written false ls)
-written false (Serial key marks ∷ ls) = ap (λ text. line_text (line_of (Serial key marks)) ++ text) (written false ls)
-written false (Epoch key epoch kept marks ∷ ls) = ap (λ text. line_text (line_of (Epoch key epoch kept marks)) ++ text) (written false ls)
-written false (CellsLine key cells ∷ ls) = ap (λ text. line_text (line_of (CellsLine key cells)) ++ text) (written false ls)
-written false (End ∷ ls) = ap (λ text. line_text (line_of End) ++ text) (written false ls)
+written false (Release event mark port bytes ∷ ls) = ap (λ text. line_written (line_of (Release event mark port bytes)) ++ text) (written false ls)
+written false (Dropped event mark cause ∷ ls) = ap (λ text. line_written (line_of (Dropped event mark cause)) ++ text) (written false ls)
+written false (LostLine event cause ∷ ls) = ap (λ text. line_written (line_of (LostLine event cause)) ++ text) (written false ls)
+written false (Refused event cause ∷ ls) = ap (λ text. line_written (line_of (Refused event cause)) ++ text) (written false ls)
+written false (Stranger event node ∷ ls) = ap (λ text. line_written (line_of (Stranger event node)) ++ text) (written false ls)
+written false (Serial key marks ∷ ls) = ap (λ text. line_written (line_of (Serial key marks)) ++ text) (written false ls)
+written false (Epoch key epoch kept marks ∷ ls) = ap (λ text. line_written (line_of (Epoch key epoch kept marks)) ++ text) (written false ls)
+written false (CellsLine key cells ∷ ls) = ap (λ text. line_written (line_of (CellsLine key cells)) ++ text) (written false ls)
+written false (End ∷ ls) = ap (λ text. line_written (line_of End) ++ text) (written false ls)
 
 -- the byte of a message's kind is one of a frame's kinds
 of_kind : (body : Body) → (1 ≤ kind body) × (kind body ≤ 11)
@@ -65,22 +65,22 @@ shown-names ls = All-from_recursion NamesKind (shown ls) (named ls)
 
 -- what a report still has to say: the lines of the events to come, and the end lines
 abbrev pub rest_text : Bool → Application → World → List Event → List ℕ
-rest_text frames app w events = running_texts frames (shown (run_on app w events).1) ++ lines_text (shown (end_lines app.cell_count (run_on app w events).0))
+rest_text frames app w events = running_texts frames (shown (run_on app w events).1) ++ lines_written (shown (end_lines app.cell_count (run_on app w events).0))
 
 pub report_text-is : (frames : Bool) (app : Application) (setup : Setup) (events : List Event) → report_text frames app setup events ≡ rest_text frames app (opened app.cell_count (unlinked setup)) events
 report_text-is frames app setup events =
     let ran = run_on app (opened app.cell_count (unlinked setup)) events in
     let lines = if frames then ran.1 else without_sends ran.1 in
     let ends = end_lines app.cell_count ran.0 in
-    ap lines_text (map-append line_of lines ends)
-    ∙ flat_map-append line_text (shown lines) (shown ends)
-    ∙ ap (λ text. text ++ lines_text (shown ends)) (written frames ran.1)
+    ap lines_written (map-append line_of lines ends)
+    ∙ flat_map-append line_written (shown lines) (shown ends)
+    ∙ ap (λ text. text ++ lines_written (shown ends)) (written frames ran.1)
 
 pub rest_text-cons : (frames : Bool) (app : Application) (w : World) (e : Event) (es : List Event) → rest_text frames app w (e ∷ es) ≡ running_texts frames (shown (world_step app w e).1) ++ rest_text frames app (world_step app w e).0 es
 rest_text-cons frames app w e es =
     let here = (world_step app w e).1 in
     let later = (run_on app (world_step app w e).0 es).1 in
-    let ends = lines_text (shown (end_lines app.cell_count (run_on app (world_step app w e).0 es).0)) in
+    let ends = lines_written (shown (end_lines app.cell_count (run_on app (world_step app w e).0 es).0)) in
     ap (λ text. text ++ ends) (ap (running_texts frames) (map-append line_of here later) ∙ flat_map-append (running_text frames) (shown here) (shown later))
     ∙ append_assoc (running_texts frames (shown here)) (running_texts frames (shown later)) ends
 
@@ -92,5 +92,5 @@ rest_text-on frames app w new events i e lines within item on =
     ap (rest_text frames app w) cut ∙ rest_text-cons frames app w e (drop (i + 1) events) ∙ ap left (sym on)
 
 -- behind the last event the end lines are left
-pub rest_text-end : (frames : Bool) (app : Application) (w : World) (events : List Event) (i : ℕ) → length events ≤ i → rest_text frames app w (drop i events) ≡ lines_text (shown (end_lines app.cell_count w))
+pub rest_text-end : (frames : Bool) (app : Application) (w : World) (events : List Event) (i : ℕ) → length events ≤ i → rest_text frames app w (drop i events) ≡ lines_written (shown (end_lines app.cell_count w))
 rest_text-end frames app w events i past = let none : drop i events ≡ [] = drop_all i events past in ap (rest_text frames app w) none

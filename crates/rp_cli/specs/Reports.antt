@@ -30,9 +30,16 @@ setup_of s =
 abbrev pub unlinked : Setup → WorldSetup
 unlinked setup = record { switches = setup.switches; replicas = setup.replicas; terms = setup.terms; linked = false }
 
+-- what is written of a line, and of lines
+abbrev pub line_written : Line → List ℕ
+line_written l = line_text l
+
+abbrev pub lines_written : List Line → List ℕ
+lines_written ls = flat_map line_written ls
+
 -- the text of the report of a run, with the frames that it sends or without them
 abbrev pub report_text : Bool → Application → Setup → List Event → List ℕ
-report_text frames app setup events = lines_text (shown (report frames app (unlinked setup) events))
+report_text frames app setup events = lines_written (shown (report frames app (unlinked setup) events))
 
 -- the report of the run of a schedule, in which packets are counted
 abbrev pub counting_report : Bool → Schedule → List ℕ
@@ -40,9 +47,9 @@ counting_report frames s = report_text frames counting (setup_of s) s.events
 
 -- the text of a line while a run goes on: a frame that is sent has none unless frames are asked for
 abbrev pub running_text : Bool → Line → List ℕ
-running_text true l = line_text l
+running_text true l = line_written l
 running_text false (Line.Send event frame from to kind bytes) = []
-running_text false l = line_text l
+running_text false l = line_written l
 
 -- the text of the lines of an event
 abbrev pub running_texts : Bool → List Line → List ℕ

@@ -6,8 +6,8 @@ use Rattle.proto_model.specs.World.{World}
 use Rattle.proto_model.specs.WorldStep.{world_step}
 use Rattle.proto_model.specs.EndLines.{end_lines}
 use Rattle.rp_world.specs.Running.{stepped, shown}
-use Rattle.run_report.specs.Report.{NamesKind, lines_text}
-use Rattle.rp_cli.specs.Reports.{report_text}
+use Rattle.run_report.specs.Report.{NamesKind}
+use Rattle.rp_cli.specs.Reports.{lines_written, report_text}
 use Rattle.rp_cli.proofs.Fronts.{Midway, Midway-begun, Midway-more, Midway-front, Midway-part, Midway-whole, on_err, on_err-map, on_ok-map}
 use Rattle.rp_cli.proofs.ReportTexts.{rest_text, rest_text-on, rest_text-end, report_text-is, shown-names}
 use Rattle.proto_safety.proofs.EventCounts.{event_counts}
@@ -76,8 +76,8 @@ returns-clause-err g c =
     let app = g.A.App.meaning c.args.app in
     let last : c.as_slice-2.result.now ≡ shown (end_lines app.cell_count c.loop-event.world.world) =
     c.as_slice-2.ensures ∙ (rw c.loop-event.invariant.same_app at c.in_ok-lines-2.ensures.ok) in
-    let left : rest_text c.args.frames app c.loop-event.world.world (drop c.loop-event.event-index c.args.events.now) ≡ lines_text c.as_slice-2.result.now ++ [] =
-    rest_text-end c.args.frames app c.loop-event.world.world c.args.events.now c.loop-event.event-index (omega arith) ∙ ap lines_text (sym last) ∙ sym (append-nil _) in
+    let left : rest_text c.args.frames app c.loop-event.world.world (drop c.loop-event.event-index c.args.events.now) ≡ lines_written c.as_slice-2.result.now ++ [] =
+    rest_text-end c.args.frames app c.loop-event.world.world c.args.events.now c.loop-event.event-index (omega arith) ∙ ap lines_written (sym last) ∙ sym (append-nil _) in
     let midway = rw left at c.loop-event.invariant.midway in
     on_err-map c.write_lines-2.result (λ part. Midway-part _ _ _ _ _ _ midway part) c.write_lines-2.ensures.err
 
@@ -86,7 +86,7 @@ returns-clause-ok g c =
     let app = g.A.App.meaning c.args.app in
     let last : c.as_slice-2.result.now ≡ shown (end_lines app.cell_count c.loop-event.world.world) =
     c.as_slice-2.ensures ∙ (rw c.loop-event.invariant.same_app at c.in_ok-lines-2.ensures.ok) in
-    let left : rest_text c.args.frames app c.loop-event.world.world (drop c.loop-event.event-index c.args.events.now) ≡ lines_text c.as_slice-2.result.now ++ [] =
-    rest_text-end c.args.frames app c.loop-event.world.world c.args.events.now c.loop-event.event-index (omega arith) ∙ ap lines_text (sym last) ∙ sym (append-nil _) in
+    let left : rest_text c.args.frames app c.loop-event.world.world (drop c.loop-event.event-index c.args.events.now) ≡ lines_written c.as_slice-2.result.now ++ [] =
+    rest_text-end c.args.frames app c.loop-event.world.world c.args.events.now c.loop-event.event-index (omega arith) ∙ ap lines_written (sym last) ∙ sym (append-nil _) in
     let midway = rw left at c.loop-event.invariant.midway in
     on_ok-map c.write_lines-2.result (λ whole. Midway-whole _ _ _ (Midway-more _ _ _ _ _ _ midway whole)) c.write_lines-2.ensures.ok
