@@ -8,7 +8,7 @@ use Rattle.proto_data.specs.declared.message.Input.{Input}
 use Rattle.proto_data.specs.declared.message.Carried.{Carried}
 use Rattle.rp_app.specs.Application.{Application}
 use Rattle.proto_data.specs.Carrying.{output_of}
-use Rattle.proto_model.specs.Ring.{Ring, holds, remembers, remember, forget, ring_room}
+use Rattle.proto_model.specs.Ring.{Ring, holds, remembers, remember, forget}
 use Rattle.proto_data.specs.declared.limits.TheConstants.{MARKS}
 use Rattle.proto_model.specs.Slot.{Slot, epoch_of, lapsed_slot}
 use Rattle.proto_model.specs.Straight.{enters_held, from_switch}

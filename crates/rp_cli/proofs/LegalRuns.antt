@@ -6,6 +6,7 @@ use Rattle.rp_app.specs.Counting.{counting_promised}
 use Rattle.rp_base.specs.Outside.{Grows, GrowsByFront}
 use Rattle.rp_base.specs.declared.event.Event.{Event}
 use Rattle.rp_frame.specs.Spelling.{kind, spelling}
+use Rattle.rp_world.specs.declared.world.Setup.{Setup}
 use Rattle.rp_world.specs.Running.{shown}
 use Rattle.proto_model.specs.EndLines.{report}
 use Rattle.proto_safety.proofs.ReportLegal.{reports_are_legal}
@@ -15,7 +16,7 @@ use Rattle.sched_lang.specs.Ready.{IsReady}
 use Rattle.sched_lang.proofs.Accepted.{accepted-ready}
 use Rattle.rp_cli.specs.declared.status.Status.{Status}
 use Rattle.rp_cli.specs.declared.status.Status.TheVariants as status
-use Rattle.rp_cli.specs.Reports.{IsLegalText, counting_report, setup_of, unlinked, mode_of}
+use Rattle.rp_cli.specs.Reports.{IsLegalText, counting_report, report_text, setup_of, unlinked, mode_of}
 use Rattle.rp_cli.specs.Top.{Command, Counts, Runs, form_of, asked, asked_at, read_or_refused, schedule_in, Loads, WritesLegal, BeginsLegal, IsOkWith, IsLegalAfter, IsNoSchedule}
 
 legal_text : (frames : Bool) (s : Schedule) → IsReady s → IsLegalText s.events (counting_report frames s)
@@ -35,21 +36,25 @@ of_loaded P r s e h = subst (IsOkWith P) (sym e) h
 loaded_is : (words : List (List ℕ)) (frames : Bool) (name : List ℕ) (s : Schedule) (contents : List ℕ → Option (List ℕ)) → form_of words ≡ Some (Counts frames name) → Loads (Ok s) (schedule_in (contents name)) → asked words contents ≡ Ok s
 loaded_is words frames name s contents form h = ap (λ command. asked_at command contents) form ∙ h
 
--- all of it was written
-pub legal_whole : (told : Option (List ℕ → Option (List ℕ))) (words : List (List ℕ)) (frames : Bool) (name : List ℕ) (s : Schedule) (old new : Option (List ℕ)) → form_of words ≡ Some (Counts frames name) →
-    IfSome told (λ contents. Loads (Ok s) (schedule_in (contents name))) → IsReady s → Grows old new (counting_report frames s) →
-    IfSome told (λ contents. IsOkWith (λ (s : Schedule). WritesLegal s.events old new) (asked words contents))
-legal_whole None words frames name s old new form h ready grows = tt
-legal_whole (Some contents) words frames name s old new form h ready grows =
-    of_loaded (λ (s : Schedule). WritesLegal s.events old new) (asked words contents) s (loaded_is words frames name s contents form h) (counting_report frames s, (legal_text frames s ready, grows))
+module _ (told : Option (List ℕ → Option (List ℕ))) (words : List (List ℕ)) (frames : Bool) (name : List ℕ) (s : Schedule) (setup : Setup) (events : List Event) (old new : Option (List ℕ))
+    (form : form_of words ≡ Some (Counts frames name)) (loads : IfSome told (λ contents. Loads (Ok s) (schedule_in (contents name)))) (ready : IsReady s) (setup_is : setup ≡ setup_of s) (events_are : events ≡ s.events) where
+  -- what a run of this schedule writes
+  report_is : report_text frames counting setup events ≡ counting_report frames s
+  report_is = ap (λ (x : Setup). report_text frames counting x events) setup_is ∙ ap (λ es. report_text frames counting (setup_of s) es) events_are
 
--- a front of it was
-pub legal_front : (told : Option (List ℕ → Option (List ℕ))) (words : List (List ℕ)) (frames : Bool) (name : List ℕ) (s : Schedule) (old new : Option (List ℕ)) → form_of words ≡ Some (Counts frames name) →
-    IfSome told (λ contents. Loads (Ok s) (schedule_in (contents name))) → IsReady s → GrowsByFront old new (counting_report frames s) →
-    IfSome told (λ contents. IsOkWith (λ (s : Schedule). BeginsLegal s.events old new) (asked words contents))
-legal_front None words frames name s old new form h ready grows = tt
-legal_front (Some contents) words frames name s old new form h ready grows =
-    of_loaded (λ (s : Schedule). BeginsLegal s.events old new) (asked words contents) s (loaded_is words frames name s contents form h) (counting_report frames s, (legal_text frames s ready, grows))
+  here : (P : Schedule → Type 0) → P s → (o : Option (List ℕ → Option (List ℕ))) → IfSome o (λ contents. Loads (Ok s) (schedule_in (contents name))) → IfSome o (λ contents. IsOkWith P (asked words contents))
+  here P h None l = tt
+  here P h (Some contents) l = of_loaded P (asked words contents) s (loaded_is words frames name s contents form l) h
+
+  -- all of it was written
+  pub legal_whole : Grows old new (report_text frames counting setup events) → IfSome told (λ contents. IsOkWith (λ (s : Schedule). WritesLegal s.events old new) (asked words contents))
+  legal_whole grows =
+      here (λ (s : Schedule). WritesLegal s.events old new) (counting_report frames s, (legal_text frames s ready, subst (λ text. Grows old new text) report_is grows)) told loads
+
+  -- a front of it was
+  pub legal_front : GrowsByFront old new (report_text frames counting setup events) → IfSome told (λ contents. IsOkWith (λ (s : Schedule). BeginsLegal s.events old new) (asked words contents))
+  legal_front grows =
+      here (λ (s : Schedule). BeginsLegal s.events old new) (counting_report frames s, (legal_text frames s ready, subst (λ text. GrowsByFront old new text) report_is grows)) told loads
 
 if_ok : (P : Schedule → Type 0) (r : Result Schedule Status) → IsOkWith P r → IfOk r P
 if_ok P (Ok s) h = h
