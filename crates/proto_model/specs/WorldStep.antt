@@ -247,8 +247,7 @@ run_on app w (e ∷ es) = (
 )
 
 abbrev pub world_after : Application → World → List Event → World
-world_after app w [] = w
-world_after app w (e ∷ es) = world_after app (world_step app w e).0 es
+world_after app w events = (run_on app w events).0
 
 abbrev pub run : Application → Setup → List Event → WorldStep
 run app setup events = run_on app (opened app.cell_count setup) events

@@ -4,7 +4,7 @@ use Rattle.proto_data.specs.declared.message.Entry.{Entry}
 use Rattle.key_table.specs.Table.{Key}
 use Rattle.proto_model.specs.Committed.{closing}
 use Rattle.proto_model.specs.World.{World}
-use Rattle.proto_safety.specs.Books.{In, IsGranted}
+use Rattle.proto_safety.specs.Books.{IsGranted}
 use Rattle.proto_safety.specs.LeaseLaws.{HasEpoch}
 
 -- two Grants of one epoch in a book are one: the same owner and nonce, at one place

@@ -10,7 +10,6 @@ use Rattle.proto_model.specs.World.{World, Setup}
 use Rattle.rp_base.specs.declared.legality.Fed.{Fed}
 use Rattle.rp_base.specs.declared.legality.Released.{Released}
 use Rattle.proto_model.specs.Feeds.{Each, Pairwise, key_at}
-use Rattle.proto_model.specs.Committed.{committed_flows}
 use Rattle.rp_base.specs.declared.legality.Flow.{Flow}
 use Rattle.proto_model.specs.Legal.{Legal, IsOutputIn, StandsIn, ReleasedBefore, marks_of, all_marks, marks_before, folded}
 use Rattle.proto_model.specs.EndLines.{reported}

@@ -31,11 +31,6 @@ pub fn reports_are_legal()
         LegalLines app events (printed kind spelled (report frames app setup events)) }
 {}
 
-/// A run's world is that after its events.
-pub fn runs_end_in_their_world()
-    ensures { (app : Application) (setup : Setup) (events : List Event) → (run app setup events).0 ≡ world_after app (opened app.cell_count setup) events }
-{}
-
 /// The release lines of a run, and of its report, are those of what was released, in order and each with the number of its event.
 pub fn releases_are_told()
     ensures lines { (kind : Body → ℕ) (spelled : Msg → List ℕ) (app : Application) (setup : Setup) (events : List Event) →

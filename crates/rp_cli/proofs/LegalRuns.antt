@@ -9,7 +9,7 @@ use Rattle.rp_frame.specs.Spelling.{kind, spelling}
 use Rattle.rp_world.specs.declared.world.Setup.{Setup}
 use Rattle.rp_world.specs.Running.{shown}
 use Rattle.proto_model.specs.EndLines.{report}
-use Rattle.proto_safety.proofs.ReportLegal.{reports_are_legal}
+use Rattle.proto_safety.proofs.Legality.ReportLegal.{reports_are_legal}
 use Rattle.sched_lang.specs.declared.schedule.Schedule.{Schedule}
 use Rattle.sched_lang.specs.Reading.{Fault, schedule_of}
 use Rattle.sched_lang.specs.Ready.{IsReady}

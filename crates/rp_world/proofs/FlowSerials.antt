@@ -10,8 +10,9 @@ use Rattle.proto_model.specs.ReplicaRows.{entry_key}
 use Rattle.proto_model.specs.Committed.{greater, number_in, closing_of, epoch_granted, epochs_of, is_in, is_closed, closed_items, serial_marks, committed_book}
 use Rattle.rp_world.specs.Endings.{Numbered, numbered, marked, closing_in, granted_in, is_within, marks_in, serial_in}
 use Rattle.rp_world.proofs.NotesKept.{numbers_of, marked_of}
-use Rattle.proto_safety.proofs.EpochNumbers.{greater-None}
-use Rattle.proto_safety.proofs.SerialLists.{no_grant, flat_map_same}
+use Rattle.proto_safety.proofs.Store.EpochNumbers.{greater-None}
+use Rattle.proto_safety.proofs.Serial.SerialLists.{no_grant}
+use Rattle.proto_safety.proofs.Basics.Members.{flat_map_same}
 
 -- what one entry adds to the greatest number of an epoch
 abbrev number_at : ℕ → Numbered → Option ℕ

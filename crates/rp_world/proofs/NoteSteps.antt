@@ -9,7 +9,7 @@ use Rattle.key_table.specs.Table.{Key, Table, get, put}
 use Rattle.proto_model.specs.SwitchState.{Item}
 use Rattle.proto_model.specs.ReplicaRows.{entry_key}
 use Rattle.rp_world.specs.Endings.{Numbered, Marked, FlowNotes, numbered, marked, notes_or_none, with_entry, with_item, granted_in, is_within, marks_in}
-use Rattle.proto_safety.proofs.ClockSums.{take_one_more, take_all_there}
+use Rattle.proto_safety.proofs.Basics.Lists.{take_all_there, take_one_more}
 
 pub next_item : {X : Type 0} (xs : List X) (i : ℕ) (x y : X) → i < length xs → x ≡ y → y ≡ get_or xs i y → take (i + 1) xs ≡ take i xs ++ x ∷ []
 next_item xs i x y l same at = ap (λ n. take n xs) (add-one i) ∙ take-suc xs i y l ∙ ap (λ z. take i xs ++ z ∷ []) (sym at ∙ sym same)

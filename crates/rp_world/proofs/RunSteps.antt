@@ -20,11 +20,11 @@ use Rattle.proto_model.specs.World.{World, History}
 use Rattle.proto_model.specs.WorldStep.{WorldStep, world_step}
 use Rattle.rp_world.specs.OneEach.{one_each, IsSound, IsSoundRun, IsGoing}
 use Rattle.proto_safety.specs.Frames.{Grows}
-use Rattle.proto_safety.proofs.FramesGrow.{event_grows}
+use Rattle.proto_safety.proofs.Messages.FramesGrow.{event_grows}
 use Rattle.proto_safety.specs.Sizes.{EventSized, Sized}
 use Rattle.rp_world.specs.Frames.{IsSendable}
 use Rattle.rp_world.specs.Running.{shown, stepped}
-use Rattle.proto_safety.proofs.WorldSizes.{event_sized}
+use Rattle.proto_safety.proofs.Size.WorldSizes.{event_sized}
 use Rattle.rp_world.proofs.SentSizes.{sent-sendable}
 use Rattle.rp_world.proofs.Worlds.{after_switch, after_store}
 use Rattle.rp_world.proofs.RunSound.{sound-refused, sound-switch, sound-store}

@@ -6,8 +6,8 @@ use Rattle.proto_data.specs.declared.message.Msg.{Msg}
 use Rattle.proto_model.specs.Feeds.{Each}
 use Rattle.proto_model.specs.World.{World}
 use Rattle.proto_safety.specs.Sizes.{MsgSized, Sized}
-use Rattle.proto_safety.proofs.SizesFit.{msg_fits}
-use Rattle.proto_safety.proofs.WorldSizes.{sized_short}
+use Rattle.proto_safety.proofs.Size.SizesFit.{msg_fits}
+use Rattle.proto_safety.proofs.Size.WorldSizes.{sized_short}
 use Rattle.rp_world.specs.Frames.{IsSendable}
 use Rattle.rp_world.proofs.FrameLengths.{spelling_long}
 

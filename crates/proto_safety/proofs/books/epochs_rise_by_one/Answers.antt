@@ -1,4 +1,4 @@
-use Rattle.proto_safety.proofs.EpochsCount as count
+use Rattle.proto_safety.proofs.Store.EpochsCount as count
 use Rattle.proto_safety.proofs.books.epochs_rise_by_one.Goals as goal
 
 pub returns : goal.returns

@@ -1,4 +1,4 @@
-use Rattle.proto_safety.proofs.CellsStand as stand
+use Rattle.proto_safety.proofs.Serial.CellsStand as stand
 use Rattle.proto_safety.proofs.cells.cells_stand.Goals as goal
 
 pub returns : goal.returns

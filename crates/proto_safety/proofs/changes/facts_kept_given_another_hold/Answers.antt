@@ -1,4 +1,4 @@
-use Rattle.proto_safety.proofs.Induction.{run_kept, keeps_both}
+use Rattle.proto_safety.proofs.Inductions.Induction.{run_kept, keeps_both}
 use Rattle.proto_safety.proofs.changes.facts_kept_given_another_hold.Goals as goal
 
 pub returns : goal.returns

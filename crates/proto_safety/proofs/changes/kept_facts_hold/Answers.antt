@@ -1,4 +1,4 @@
-use Rattle.proto_safety.proofs.Induction.{run_kept}
+use Rattle.proto_safety.proofs.Inductions.Induction.{run_kept}
 use Rattle.proto_safety.proofs.changes.kept_facts_hold.Goals as goal
 
 pub returns : goal.returns

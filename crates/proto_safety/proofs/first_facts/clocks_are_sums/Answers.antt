@@ -1,4 +1,4 @@
-use Rattle.proto_safety.proofs.ClockSums.{clock_is_sum}
+use Rattle.proto_safety.proofs.Time.ClockSums.{clock_is_sum}
 use Rattle.proto_safety.proofs.first_facts.clocks_are_sums.Goals as goal
 
 pub returns : goal.returns

@@ -1,4 +1,4 @@
-use Rattle.proto_safety.proofs.Clocks.{aged_later}
+use Rattle.proto_safety.proofs.Time.Clocks.{aged_later}
 use Rattle.proto_safety.proofs.first_facts.clocks_keep_the_ratio.Goals as goal
 
 pub returns : goal.returns

@@ -1,4 +1,4 @@
-use Rattle.proto_safety.proofs.FedMarks.{marks_once}
+use Rattle.proto_safety.proofs.Packets.FedMarks.{marks_once}
 use Rattle.proto_safety.proofs.first_facts.marks_differ.Goals as goal
 
 pub returns : goal.returns

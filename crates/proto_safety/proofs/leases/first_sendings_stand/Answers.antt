@@ -1,4 +1,4 @@
-use Rattle.proto_safety.proofs.FirstsOnce.{are_firsts, first_now}
+use Rattle.proto_safety.proofs.Leasing.FirstsOnce.{are_firsts, first_now}
 use Rattle.proto_safety.proofs.leases.first_sendings_stand.Goals as goal
 
 pub returns : goal.returns

@@ -1,4 +1,4 @@
-use Rattle.proto_safety.proofs.LeasesStand as stand
+use Rattle.proto_safety.proofs.Leasing.LeasesStand as stand
 use Rattle.proto_safety.proofs.leases.leases_hold.Goals as goal
 
 pub returns : goal.returns

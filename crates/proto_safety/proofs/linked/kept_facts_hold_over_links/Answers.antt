@@ -1,4 +1,4 @@
-use Rattle.proto_safety.proofs.LinkedKept.{linked_kept}
+use Rattle.proto_safety.proofs.Link.LinkedKept.{linked_kept}
 use Rattle.proto_safety.proofs.linked.kept_facts_hold_over_links.Goals as goal
 
 pub returns : goal.returns

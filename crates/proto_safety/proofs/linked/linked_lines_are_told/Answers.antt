@@ -1,4 +1,4 @@
-use Rattle.proto_safety.proofs.LinkedTold as told
+use Rattle.proto_safety.proofs.Link.LinkedTold as told
 use Rattle.proto_safety.proofs.linked.linked_lines_are_told.Goals as goal
 
 pub returns : goal.returns

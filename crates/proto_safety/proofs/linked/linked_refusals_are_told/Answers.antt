@@ -1,4 +1,4 @@
-use Rattle.proto_safety.proofs.LinkedRefusals as refusals
+use Rattle.proto_safety.proofs.Link.LinkedRefusals as refusals
 use Rattle.proto_safety.proofs.linked.linked_refusals_are_told.Goals as goal
 
 pub returns : goal.returns

@@ -1,4 +1,4 @@
-use Rattle.proto_safety.proofs.RunsAreLegal as legal
+use Rattle.proto_safety.proofs.Legality.RunsAreLegal as legal
 use Rattle.proto_safety.proofs.linked.linked_runs_are_legal.Goals as goal
 
 pub returns : goal.returns

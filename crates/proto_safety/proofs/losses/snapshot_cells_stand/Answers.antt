@@ -1,4 +1,4 @@
-use Rattle.proto_safety.proofs.SnapRun.{snapshot_cells}
+use Rattle.proto_safety.proofs.Snapshots.SnapRun.{snapshot_cells}
 use Rattle.proto_safety.proofs.losses.snapshot_cells_stand.Goals as goal
 
 pub returns : goal.returns

@@ -10,11 +10,11 @@ use Rattle.rp_base.specs.declared.legality.Fed.{Fed as FedValue}
 use Rattle.rp_base.specs.declared.legality.Released.{Released}
 use Rattle.rp_base.specs.declared.line.Line.{Line}
 use Rattle.proto_safety.specs.Books.{In}
-use Rattle.proto_safety.proofs.Lists.{among_in}
 use Rattle.proto_safety.specs.LegalLines.{CellsAreFolded, IsAuditOf, KeyedAreListed, KeylessAreFed, ListsAreFed, ListsAreInOrder, feeds_in, flows_in, releases_in, lists_fail, keyed_fail, order_fails, cells_fail, keyless_fail}
 use Rattle.proto_safety.specs.RuleRows.{count_of, ends_with, early_lines, fed_first, fed_keyless, fed_second, keyless_lines, refused_lines, right_lines, wrong_cells, wrong_output}
-use Rattle.proto_safety.proofs.RulesOneByOne.{rules_together}
+use Rattle.proto_safety.proofs.Legality.RulesOneByOne.{rules_together}
 use Rattle.proto_safety.proofs.reports.each_rule_refuses.Goals as goal
+use Rattle.proto_safety.proofs.Basics.Members.{among_in}
 
 -- one flow's list of one mark
 abbrev Fed : List Event → List Line → Type 0

@@ -1,4 +1,4 @@
-use Rattle.proto_safety.proofs.ReportLegal as legal
+use Rattle.proto_safety.proofs.Legality.ReportLegal as legal
 use Rattle.proto_safety.proofs.reports.refusals_are_told.Goals as goal
 
 pub returns : goal.returns

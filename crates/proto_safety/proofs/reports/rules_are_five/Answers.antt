@@ -1,4 +1,4 @@
-use Rattle.proto_safety.proofs.RulesOneByOne as rules
+use Rattle.proto_safety.proofs.Legality.RulesOneByOne as rules
 use Rattle.proto_safety.proofs.reports.rules_are_five.Goals as goal
 
 pub returns : goal.returns

@@ -1,6 +1,6 @@
 use Rattle.proto_model.specs.World.{opened}
 use Rattle.proto_model.specs.WorldStep.{world_after}
-use Rattle.proto_safety.proofs.WorldNonces.{all_nonces, greatest_ask}
+use Rattle.proto_safety.proofs.Messages.WorldNonces.{all_nonces, greatest_ask}
 use Rattle.proto_safety.proofs.requests.slots_have_the_greatest_ask.Goals as goal
 
 pub returns : goal.returns

@@ -1,5 +1,5 @@
 use Rattle.std.proofs.Common.{refl}
-use Rattle.proto_safety.proofs.StoreTable.{message_taken}
+use Rattle.proto_safety.proofs.Nodes.StoreTable.{message_taken}
 use Rattle.proto_safety.proofs.rows.store_rows_stand_in_the_table.Goals as goal
 
 pub returns : goal.returns

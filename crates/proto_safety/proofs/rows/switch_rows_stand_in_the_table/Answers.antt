@@ -1,4 +1,4 @@
-use Rattle.proto_safety.proofs.SwitchTable.{row_taken}
+use Rattle.proto_safety.proofs.Nodes.SwitchTable.{row_taken}
 use Rattle.proto_safety.proofs.rows.switch_rows_stand_in_the_table.Goals as goal
 
 pub returns : goal.returns

@@ -1,4 +1,4 @@
-use Rattle.proto_safety.proofs.NodesSay.{switch_says}
+use Rattle.proto_safety.proofs.Nodes.NodesSay.{switch_says}
 use Rattle.proto_safety.proofs.rows.switches_say_what_they_are.Goals as goal
 
 pub returns : goal.returns

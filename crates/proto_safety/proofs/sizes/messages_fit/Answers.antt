@@ -1,4 +1,4 @@
-use Rattle.proto_safety.proofs.WorldSizes.{run_fits}
+use Rattle.proto_safety.proofs.Size.WorldSizes.{run_fits}
 use Rattle.proto_safety.proofs.sizes.messages_fit.Goals as goal
 
 pub returns : goal.returns

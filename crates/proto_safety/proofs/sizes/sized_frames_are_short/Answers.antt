@@ -1,4 +1,4 @@
-use Rattle.proto_safety.proofs.WorldSizes.{sized_short}
+use Rattle.proto_safety.proofs.Size.WorldSizes.{sized_short}
 use Rattle.proto_safety.proofs.sizes.sized_frames_are_short.Goals as goal
 
 pub returns : goal.returns

@@ -1,4 +1,4 @@
-use Rattle.proto_safety.proofs.WorldSizes.{sized_fits}
+use Rattle.proto_safety.proofs.Size.WorldSizes.{sized_fits}
 use Rattle.proto_safety.proofs.sizes.sized_frames_fit.Goals as goal
 
 pub returns : goal.returns

@@ -1,4 +1,4 @@
-use Rattle.proto_safety.proofs.WorldSizes.{event_sized_at, hand_sized}
+use Rattle.proto_safety.proofs.Size.WorldSizes.{event_sized_at, hand_sized}
 use Rattle.proto_safety.proofs.sizes.turns_keep_sizes.Goals as goal
 
 pub returns : goal.returns

@@ -1,4 +1,4 @@
-use Rattle.proto_safety.proofs.StraightAsks as asks
+use Rattle.proto_safety.proofs.Paths.StraightAsks as asks
 use Rattle.proto_safety.proofs.straight.asks_are_answered.Goals as goal
 
 pub returns : goal.returns

@@ -1,4 +1,4 @@
-use Rattle.proto_safety.proofs.StraightPuts as puts
+use Rattle.proto_safety.proofs.Paths.StraightPuts as puts
 use Rattle.proto_safety.proofs.straight.puts_release.Goals as goal
 
 pub returns : goal.returns

@@ -1,5 +1,5 @@
 use Rattle.std.proofs.Common.{refl}
-use Rattle.proto_safety.proofs.StraightRows.{put_path, ask_path, one_path}
+use Rattle.proto_safety.proofs.Paths.StraightRows.{put_path, ask_path, one_path}
 use Rattle.proto_safety.proofs.worked_rows.straight_paths_compute.Goals as goal
 
 pub returns : goal.returns

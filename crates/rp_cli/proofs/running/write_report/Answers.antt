@@ -10,7 +10,7 @@ use Rattle.run_report.specs.Report.{NamesKind}
 use Rattle.rp_cli.specs.Reports.{lines_written, report_text}
 use Rattle.rp_cli.proofs.Fronts.{Midway, Midway-begun, Midway-more, Midway-front, Midway-part, Midway-whole, on_err, on_err-map, on_ok-map}
 use Rattle.rp_cli.proofs.ReportTexts.{rest_text, rest_text-on, rest_text-end, report_text-is, shown-names}
-use Rattle.proto_safety.proofs.EventCounts.{event_counts}
+use Rattle.proto_safety.proofs.Inductions.EventCounts.{event_counts}
 use Rattle.rp_cli.proofs.running.write_report.Goals as goal
 
 pub loop-event-init : goal.loop-event-init

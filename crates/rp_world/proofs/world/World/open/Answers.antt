@@ -1,7 +1,7 @@
 use Rattle.std.proofs.Common.{◌≡◌, ◌∙◌, ap, false, sym, subst, arith}
 use Rattle.proto_model.specs.World.{Setup, opened}
 use Rattle.proto_safety.specs.Sizes.{Sized}
-use Rattle.proto_safety.proofs.WorldSizes.{opened_sized}
+use Rattle.proto_safety.proofs.Size.WorldSizes.{opened_sized}
 use Rattle.rp_world.specs.OneEach.{IsSound}
 use Rattle.rp_world.proofs.world.World.open.Goals as goal
 

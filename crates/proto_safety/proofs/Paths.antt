@@ -1,0 +1,9 @@
+-- Straight paths.
+pub mod StraightAsks
+pub mod StraightHops
+pub mod StraightPuts
+pub mod StraightRows
+pub mod StraightStart
+pub mod StraightTail
+pub mod StraightWaits
+pub mod PutGoesOn

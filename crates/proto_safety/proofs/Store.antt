@@ -1,0 +1,22 @@
+-- Books of replicas, epochs in them, moments.
+pub mod Chains
+pub mod LastBook
+pub mod BooksInOrder
+pub mod BooksLater
+pub mod BooksStep
+pub mod WorldBooks
+pub mod StoreBooks
+pub mod StoreStands
+pub mod WorldStands
+pub mod BookEpochs
+pub mod BookEpochLaws
+pub mod EpochsCount
+pub mod EpochNumbers
+pub mod Closings
+pub mod WorldFits
+pub mod StoreFits
+pub mod SwitchFits
+pub mod FlowBooks
+pub mod BookMoments
+pub mod Timed
+pub mod WorldGathers

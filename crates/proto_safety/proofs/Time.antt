@@ -1,0 +1,3 @@
+-- Clocks.
+pub mod ClockSums
+pub mod Clocks
