@@ -1,0 +1,5 @@
+use Rattle.link_arena.proofs.Sound.{count_seen}
+use Rattle.link_arena.proofs.arena.Arena.count.Goals as goal
+
+pub returns : goal.returns
+returns g c = count_seen c.args.which _ _ _ _ _ _ _ _ _ _ c.self.view_is c.self.invariant c.ends_of_kind.ensures c.deref.ensures.value c.deref-2.ensures.value c.requires
