@@ -1,5 +1,7 @@
 -- What was fed, by its mark.
 use Rattle.std.specs.Prelude.{ℕ, ◌==◌, List, [], ◌∷◌, Option, find, option_map, option_and_then, filter_map}
+-- each element of a list meets a predicate
+pub use Rattle.std.specs.List.{AllByRecursion as Each}
 use Rattle.rp_base.specs.declared.node.Packet.{Packet}
 use Rattle.key_table.specs.Table.{Key}
 use Rattle.rp_app.specs.Application.{Application}
@@ -19,11 +21,6 @@ key_at app fed mark = option_and_then app.key_of (packet_at fed mark)
 -- the packets of marks
 abbrev pub packets_at : List Fed → List ℕ → List Packet
 packets_at fed marks = filter_map (packet_at fed) marks
-
--- each element meets P
-abbrev pub Each : {A : Type 0} → (A → Type 0) → List A → Type 0
-Each P [] = Unit {0}
-Each P (x ∷ xs) = P x × Each P xs
 
 -- R holds for each two elements, the one that stands first coming first
 abbrev pub Pairwise : {A : Type 0} → (A → A → Type 0) → List A → Type 0
