@@ -32,7 +32,7 @@ pub fn configurations_hold()
         (world_after app (world_after app (opened app.cell_count setup) events) more) }
 {}
 
-/// A book has no entry of an epoch that isn't granted in it, and an epoch has one Grant.
+/// Each entry of a book is the Grant of its epoch, or stands behind it, and an epoch has one Grant.
 pub fn epochs_are_granted_once()
     ensures each { (app : Application) (setup : Setup) (events : List Event) (n : ℕ) → EpochsOf (book_of (world_after app (opened app.cell_count setup) events).replicas n) }
     ensures committed { (app : Application) (setup : Setup) (events : List Event) → EpochsOf (committed_of (world_after app (opened app.cell_count setup) events).replicas) }

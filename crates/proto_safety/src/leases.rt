@@ -25,9 +25,9 @@ pub fn first_sendings_stand()
 /// first sendings of the run's requests: what passed at a replica since it applied a request's entry is bounded, by the ratio,
 /// by what passed at the switch since it first sent that request; a lease ends one term after the first sending of a request of
 /// its epoch whose entry is committed; a slot has the greatest incarnation and nonce of its switch's Asks for the flow; in every
-/// book the next epoch goes to the same switch by a later Ask, or to any switch once each request of the epoch before, whose
-/// entry stands there, has run out where it was sent. So no slot is live, and no Asking whose Grant stands is young, where a
-/// running replica has a later epoch. Switches that failed keep to it too.
+/// book the Grant of the next epoch stands behind that of the epoch before, and goes to the same switch by a later Ask, or to any
+/// switch once each request of that epoch, whose entry stands there, has run out where it was sent. So no slot is live, and no
+/// Asking whose Grant stands is young, where a running replica has a later epoch. Switches that failed keep to it too.
 pub fn leases_hold()
     ensures { (app : Application) (setup : Setup) →
         TermsHold setup.terms.t_switch setup.terms.t_store setup.terms.ratio → (events : List Event) →
