@@ -82,7 +82,7 @@ begins_in old (Some text) = begins_read old (schedule_of text) (accepted-ready t
 begins_at : (old : Option (List ℕ)) (command : Option Command) (contents : List ℕ → Option (List ℕ)) → IfOk (asked_at command contents) (λ (s : Schedule). BeginsLegal s.events old old)
 begins_at old None contents = tt
 begins_at old (Some (Counts frames schedule)) contents = begins_in old (contents schedule)
-begins_at old (Some (Runs program)) contents = tt
+begins_at old (Some (Runs program schedule)) contents = tt
 
 instead : (answer : Status) (words : List (List ℕ)) (contents : List ℕ → Option (List ℕ)) (old : Option (List ℕ)) → IsNoSchedule answer → IsLegalAfter answer (asked words contents) old old
 instead status.Done words contents old h = absurd h

@@ -1,4 +1,3 @@
-pub mod Ports
 pub mod Reports
 pub mod Top
 pub mod Seen

@@ -6,4 +6,4 @@ use Rattle.rp_cli.specs.declared.top.Command.TheVariants as read
 -- what a command that was read asks for
 abbrev pub seen : Read → Command
 seen (read.Count frames schedule) = Counts frames schedule.now
-seen (read.Program program) = Runs program.now
+seen (read.Program program schedule) = Runs program.now schedule.now

@@ -1,7 +1,9 @@
 -- What is told on standard error.
-use Rattle.std.specs.Prelude.{ℕ, List, codes}
+use Rattle.std.specs.Prelude.{ℕ, List, [], ◌∷◌, ◌++◌, codes, decimal}
 use Rattle.sched_lang.specs.declared.schedule.SchedWhy.{SchedWhy}
 use Rattle.sched_lang.specs.declared.schedule.SchedWhy.TheVariants as why
+use Rattle.rp_cli.specs.declared.status.Status.{Status}
+use Rattle.rp_cli.specs.declared.status.Status.TheVariants as status
 
 -- the name of the cause for which a schedule is refused
 abbrev pub why_text : SchedWhy → List ℕ
@@ -14,3 +16,21 @@ why_text why.Terms = codes "Terms"
 why_text why.Cells = codes "Cells"
 why_text why.Mode = codes "Mode"
 why_text why.NotYet = codes "NotYet"
+
+-- how the program ended, in words
+abbrev pub status_text : Status → List ℕ
+status_text status.Done = codes "done"
+status_text status.Usage = codes "usage"
+status_text (status.ScheduleRefused line why) = codes "schedule " ++ decimal line ++ codes " " ++ why_text why
+status_text status.InputFault = codes "input fault"
+status_text status.OutputFault = codes "output fault"
+status_text status.NoMemory = codes "no memory"
+
+-- the line on standard error, with its line feed; none where all is written
+abbrev pub status_line : Status → List ℕ
+status_line status.Done = []
+status_line status.Usage = codes "rp: " ++ status_text status.Usage ++ 10 ∷ []
+status_line (status.ScheduleRefused line why) = codes "rp: " ++ status_text (status.ScheduleRefused line why) ++ 10 ∷ []
+status_line status.InputFault = codes "rp: " ++ status_text status.InputFault ++ 10 ∷ []
+status_line status.OutputFault = codes "rp: " ++ status_text status.OutputFault ++ 10 ∷ []
+status_line status.NoMemory = codes "rp: " ++ status_text status.NoMemory ++ 10 ∷ []

@@ -15,8 +15,8 @@ use Rattle.rp_cli.specs.Reports.{counting_report, IsLegalText}
 pub data Command : Type 0 where
   -- the report of this schedule, in which packets are counted, with the frames that are sent or without them
   Counts : (frames : Bool) (schedule : List ℕ) → Command
-  -- a run of this program; programs don't run yet
-  Runs : (program : List ℕ) → Command
+  -- a run of this program over this schedule; programs don't run yet
+  Runs : (program schedule : List ℕ) → Command
 
 -- whether frames are asked for, by the words behind a schedule's name
 abbrev pub frames_by : List (List ℕ) → Option Bool
@@ -26,7 +26,7 @@ frames_by (word ∷ more ∷ words) = None
 
 -- the command that runs this application over this schedule
 abbrev pub command_by : List ℕ → List ℕ → Bool → Command
-command_by app schedule frames = if bytes_eq app (codes "@count") then Counts frames schedule else Runs app
+command_by app schedule frames = if bytes_eq app (codes "@count") then Counts frames schedule else Runs app schedule
 
 -- The command of a command line that has a form: `run`, an application, the name of a schedule, and `--frames` or nothing.
 abbrev pub form_of : List (List ℕ) → Option Command
@@ -48,15 +48,16 @@ abbrev pub schedule_in : Option (List ℕ) → Result Schedule Status
 schedule_in None = Err status.InputFault
 schedule_in (Some text) = read_or_refused (schedule_of text)
 
--- the answer of a program's content: it must be there, and doesn't run yet
-abbrev pub program_in : Option (List ℕ) → Status
-program_in None = status.InputFault
-program_in (Some text) = status.Usage
+-- the answer of a program's content and a schedule's: both must be there, and programs don't run yet
+abbrev pub program_in : Option (List ℕ) → Option (List ℕ) → Status
+program_in None schedule = status.InputFault
+program_in (Some program) None = status.InputFault
+program_in (Some program) (Some schedule) = status.Usage
 
 abbrev pub asked_at : Option Command → (List ℕ → Option (List ℕ)) → Result Schedule Status
 asked_at None contents = Err status.Usage
 asked_at (Some (Counts frames schedule)) contents = schedule_in (contents schedule)
-asked_at (Some (Runs program)) contents = Err (program_in (contents program))
+asked_at (Some (Runs program schedule)) contents = Err (program_in (contents program) (contents schedule))
 
 -- the schedule that these words ask for over inputs with these contents, or the answer in its place
 abbrev pub asked : List (List ℕ) → (List ℕ → Option (List ℕ)) → Result Schedule Status
@@ -66,7 +67,7 @@ asked words contents = asked_at (form_of words) contents
 abbrev pub shows_frames : Option Command → Bool
 shows_frames None = false
 shows_frames (Some (Counts frames schedule)) = frames
-shows_frames (Some (Runs program)) = false
+shows_frames (Some (Runs program schedule)) = false
 
 -- the report of a run, or the answer in place of a schedule
 abbrev pub reported_or : Bool → Result Schedule Status → Result (List ℕ) Status
@@ -167,7 +168,7 @@ IsNoProgram status.NoMemory = Unit {0}
 abbrev pub IsAnswerTo : Option Command → Status → Type 0
 IsAnswerTo None answer = answer ≡ status.Usage
 IsAnswerTo (Some (Counts frames schedule)) answer = ¬ (answer ≡ status.Usage)
-IsAnswerTo (Some (Runs program)) answer = IsNoProgram answer
+IsAnswerTo (Some (Runs program schedule)) answer = IsNoProgram answer
 
 -- the exit status
 abbrev pub number_of : Status → ℕ

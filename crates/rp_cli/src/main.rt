@@ -1,105 +1,64 @@
 //! The program: runs a schedule and writes its report.
 #![tactic(auto)]
 
-ghost use Rattle.std.specs.Prelude.{◌≡◌};
-ghost use Rattle.rp_cli.specs.Telling.{why_text};
+ghost use Rattle.std.specs.Prelude.{◌≡◌, IfSome, drop};
+ghost use Rattle.rp_base.specs.Outside.{Rose};
+ghost use Rattle.rp_cli.specs.Top.{form_of, asked, outcome, Answers, IsAnswerTo, IsLegalAfter};
 
-mod adapters;
 mod running;
 mod status;
 mod top;
 
-use adapters::{FileInputs, SystemClock, UdpLink, WriterSink};
-use rp_base::{Bytes, NoMemory, Words};
-use sched_lang::SchedWhy;
-use status::Status;
+use host_io::{
+    CommandLine, FileInputs, ProcessCommandLine, SystemClock, UdpLink, WriterSink, words_of,
+};
+use rp_base::{Clock, Inputs, Link, Sink};
+use status::{Status, tell};
 use std::alloc::Global;
-use std::env::FillError;
 use std::io;
 use std::process::ExitCode;
-use std::rt::Env;
-use std::time::Instant;
 use top::rp_main;
 
-// The most bytes that the system hands over in one word.
-const WORD_LIMIT: usize = 131072;
+// Runs what a command line asks for: the words behind the program's name.
+fn run<A: CommandLine, I: Inputs, K: Sink, L: Link, C: Clock>(
+    alloc: Global,
+    line: &A,
+    inputs: &mut I,
+    out: &mut K,
+    link: &mut L,
+    clock: &mut C,
+) -> Status
+    ensures usage { IfSome (A.words line.now) (λ words.
+        ¬ (result ≡ Status.NoMemory) → IsAnswerTo (form_of (drop 1 words)) result) }
 
-// The words behind the program's name. A word that is too long for the system's own limit is taken as empty.
-fn words_of<R: Env>(rt: &R, alloc: Global) -> Result<Words, NoMemory> {
-    let mut words = Words::new(alloc);
-    let mut buf = vec![in alloc; 0u8; WORD_LIMIT]?;
-    for i in 1..usize::MAX {
-        let mut word = Bytes::new(alloc);
-        match rt.arg(i, &mut buf) {
-            Ok(count) => word.append(&buf[..count])?,
-            Err(FillError::TooLong) => {}
-            Err(FillError::NotPresent) => break,
-        }
-        words.push(word)?;
-    }
-    Ok(words)
-}
+    // where the command line and the inputs tell what they hold
+    ensures told { IfSome (A.words line.now) (λ words. IfSome (I.contents inputs.old) (λ contents.
+        Answers result (outcome (drop 1 words) contents) (K.written out.old) (K.written out.new))) }
+    ensures legal { IfSome (A.words line.now) (λ words. IfSome (I.contents inputs.old) (λ contents.
+        IsLegalAfter result (asked (drop 1 words) contents) (K.written out.old) (K.written out.new))) }
 
-// The name of the cause for which a schedule is refused.
-fn why_name(why: SchedWhy) -> &'static str
-    ensures { result.now ≡ why_text why }
+    ensures input { result ≡ Status.InputFault → Rose (I.faults inputs.old) (I.faults inputs.new) }
+    ensures output { result ≡ Status.OutputFault → Rose (K.faults out.old) (K.faults out.new) }
+    ensures link { link.new ≡ link.old }
+    ensures clock { clock.new ≡ clock.old }
 {
-    match why {
-        SchedWhy::TooLong => "TooLong",
-        SchedWhy::Many => "Many",
-        SchedWhy::Form => "Form",
-        SchedWhy::Number => "Number",
-        SchedWhy::Node => "Node",
-        SchedWhy::Terms => "Terms",
-        SchedWhy::Cells => "Cells",
-        SchedWhy::Mode => "Mode",
-        SchedWhy::NotYet => "NotYet",
+    match words_of(alloc, line) {
+        Ok(words) => rp_main(alloc, &words, inputs, out, link, clock),
+        Err(_) => Status::NoMemory,
     }
-}
-
-// Tells on standard error why the program ended, unless all is written.
-fn tell<R: Eprint>(rt: &R, status: Status) -> io::Result<()> {
-    match status {
-        Status::Done => Ok(()),
-        Status::Usage => rt.eprintln("rp: usage"),
-        Status::ScheduleRefused { line, why } => {
-            let name = why_name(why);
-            eprintln!(rt; "rp: schedule {line} {name}")
-        }
-        Status::InputFault => rt.eprintln("rp: input fault"),
-        Status::OutputFault => rt.eprintln("rp: output fault"),
-        Status::NoMemory => rt.eprintln("rp: no memory"),
-    }
-}
-
-fn run(rt: &HostRuntime) -> Status {
-    let alloc: Global = rt.alloc();
-    let Ok(words) = words_of(rt, alloc) else {
-        return Status::NoMemory;
-    };
-    let mut inputs = FileInputs { rt, faults: 0 };
-    let mut out = WriterSink {
-        inner: io::writer(rt),
-        faults: 0,
-    };
-    let mut link = UdpLink {
-        rt,
-        open: Vec::new(alloc),
-        faults: 0,
-    };
-    let mut clock = SystemClock {
-        rt,
-        start: Instant::now(rt).ok(),
-        last: 0,
-    };
-    rp_main(alloc, &words, &mut inputs, &mut out, &mut link, &mut clock)
 }
 
 fn main(rt: HostRuntime) -> ExitCode {
-    let status = run(&rt);
+    let alloc: Global = rt.alloc();
+    let line = ProcessCommandLine::new(&rt);
+    let mut inputs = FileInputs::new(&rt, alloc);
+    let mut out = WriterSink::new(io::writer(&rt));
+    let mut link = UdpLink::new(&rt, alloc);
+    let mut clock = SystemClock::started(&rt);
+    let status = run(alloc, &line, &mut inputs, &mut out, &mut link, &mut clock);
     // Standard error has nowhere to report its own failure to: the status stands.
-    let _ = tell(&rt, status);
-    ExitCode::from(status.number())
+    let _ = tell(status, &mut rt.stderr());
+    status.exit_code()
 }
 
 #[cfg(test)]

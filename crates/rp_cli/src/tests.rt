@@ -1,13 +1,14 @@
-use crate::adapters::UdpLink;
-use crate::status::Status;
+use crate::status::{Status, tell};
 use crate::top::rp_main;
+use host_io::FileInputs;
 use rp_base::{
-    Bytes, Content, Kept, Link, ListClock, MemInputs, MemSink, NoMemory, Node, Post, SureInputs,
-    SureLink, SureSink, Words,
+    Bytes, Content, Kept, ListClock, MemInputs, MemSink, NoMemory, Post, SureInputs, SureLink,
+    SureSink, Words,
 };
 use sched_lang::SchedWhy;
 use std::alloc::Global;
 use std::test::Fail;
+use std::{env, fs, process};
 
 const HEADER: &[u8] =
     b"rp-schedule 1\nswitches 1\nchain 1\nlease 1000 1100\nratio 50\nmode strict\n";
@@ -188,20 +189,23 @@ fn refusals_write_nothing(rt: HostRuntime) -> Result<(), Fail> {
 #[test]
 fn faults_end_the_run(rt: HostRuntime) -> Result<(), Fail> {
     let alloc = rt.alloc();
-    // the words, the call at which the sink fails, and what comes of it
-    let rows: [(&[u8], u64, Status, &[u8]); 5] = [
-        (b"run @count x", 9, Status::Done, ONE_PACKET_REPORT),
+    // the words, the call at which the sink fails, what comes of it, and how many contents were asked for
+    let rows: [(&[u8], u64, Status, &[u8], u64); 7] = [
+        (b"run @count x", 9, Status::Done, ONE_PACKET_REPORT, 1),
         (
             b"run @count x",
             2,
             Status::OutputFault,
             b"release 5 1 7 00000000000000016121\nserial 61 1\n",
+            1,
         ),
-        (b"run @count nofile", 9, Status::InputFault, b""),
-        (b"run nofile x", 9, Status::InputFault, b""),
-        (b"run x x", 9, Status::Usage, b""),
+        (b"run @count nofile", 9, Status::InputFault, b"", 1),
+        (b"run nofile x", 9, Status::InputFault, b"", 1),
+        (b"run x nofile", 9, Status::InputFault, b"", 2),
+        (b"run nofile nofile", 9, Status::InputFault, b"", 1),
+        (b"run x x", 9, Status::Usage, b"", 2),
     ];
-    for (line, call, wanted, text) in rows {
+    for (line, call, wanted, text, asked) in rows {
         let words = words(alloc, line)?;
         let mut inputs = MemInputs {
             contents: contents(alloc, bytes(alloc, &[HEADER, ONE_PACKET])?)?,
@@ -221,27 +225,34 @@ fn faults_end_the_run(rt: HostRuntime) -> Result<(), Fail> {
         let status = rp_main(alloc, &words, &mut inputs, &mut out, &mut link, &mut clock);
         assert_eq!(rt; status, wanted);
         assert_eq!(rt; out.kept.bytes.as_slice(), text);
+        assert_eq!(rt; inputs.calls, asked);
     }
     Ok(())
 }
 
+// How a file of comments that is a byte too long for a schedule is told.
 #[test]
-fn a_socket_carries_a_frame(rt: HostRuntime) -> Result<(), Fail> {
-    let mut link = UdpLink {
-        rt: &rt,
-        open: Vec::new(rt.alloc()),
-        faults: 0,
+fn a_schedule_has_a_limit(rt: HostRuntime) -> Result<(), Fail> {
+    let alloc = rt.alloc();
+    let id = process::id(rt.process());
+    let mut path = env::temp_dir(&rt)?;
+    path.push(format!(in alloc; "rp_cli-{id}")?.as_str())?;
+    let text = vec![in alloc; b'#'; 4_194_305]?;
+    fs::write(&rt, path.as_str(), text.as_slice())?;
+    let mut words = words(alloc, b"run @count")?;
+    words.push(bytes(alloc, &[path.as_str().as_bytes()])?)?;
+    let mut inputs = FileInputs::new(&rt, alloc);
+    let mut out = SureSink {
+        kept: Kept::with_room(alloc, 10000)?,
     };
-    let mut got = Bytes::new(rt.alloc());
-    link.send(Node::Switch(0), Node::Replica(0), b"frame")?;
-    let mut seen = false;
-    for _ in 0..1000 {
-        if link.recv(Node::Replica(0), &mut got)? {
-            seen = true;
-            break;
-        }
-    }
-    assert!(rt; seen);
-    assert_eq!(rt; got.as_slice(), b"frame".as_slice());
+    let mut link = link(alloc);
+    let mut clock = clock(alloc)?;
+    let status = rp_main(alloc, &words, &mut inputs, &mut out, &mut link, &mut clock);
+    fs::remove_file(&rt, path.as_str())?;
+    let mut told = Vec::new(alloc);
+    tell(status, &mut told)?;
+    assert_eq!(rt; told.as_slice(), b"rp: schedule 0 TooLong\n".as_slice());
+    assert_eq!(rt; status.number(), 3);
+    assert_eq!(rt; out.kept.bytes.len(), 0);
     Ok(())
 }

@@ -26,8 +26,8 @@ const SCHEDULE_LIMIT: u64 = 4194304;
 enum Command<'a> {
     /// The report of this schedule, in which packets are counted, with the frames that are sent or without them.
     Count(bool, &'a [u8]),
-    /// A run of this program.
-    Program(&'a [u8]),
+    /// A run of this program over this schedule.
+    Program(&'a [u8], &'a [u8]),
 }
 
 // Whether frames are asked for, by the words behind the third; `None` exactly where they have no form.
@@ -55,21 +55,26 @@ fn command_of(words: &Words) -> Option<Command<'_>>
     if app.as_slice() == b"@count".as_slice() {
         Some(Command::Count(frames, schedule.as_slice()))
     } else {
-        Some(Command::Program(app.as_slice()))
+        Some(Command::Program(app.as_slice(), schedule.as_slice()))
     }
 }
 
-// The answer where a program is asked for: its file is loaded, and programs don't run yet.
-fn unbuilt<I: Inputs>(alloc: Global, name: &[u8], inputs: &mut I) -> Status
-    ensures told { IfSome (I.contents inputs.old) (λ contents. Loads (Err result) (Err (program_in (contents name.now)))) }
+// The answer where a program is asked for: its file is loaded, and then the schedule's; programs don't run yet.
+fn unbuilt<I: Inputs>(alloc: Global, program: &[u8], schedule: &[u8], inputs: &mut I) -> Status
+    ensures told { IfSome (I.contents inputs.old) (λ contents.
+        Loads (Err result) (Err (program_in (contents program.now) (contents schedule.now)))) }
     ensures ends { IsNoProgram result }
     ensures contents { I.contents inputs.new ≡ I.contents inputs.old }
     ensures count { I.faults inputs.old ≤ I.faults inputs.new }
     ensures input { result ≡ Status.InputFault → Rose (I.faults inputs.old) (I.faults inputs.new) }
 {
     let mut text = Bytes::new(alloc);
-    match inputs.load(name, PROGRAM_LIMIT, &mut text) {
-        Ok(()) => Status::Usage,
+    match inputs.load(program, PROGRAM_LIMIT, &mut text) {
+        Ok(()) => match inputs.load(schedule, SCHEDULE_LIMIT, &mut text) {
+            Ok(()) => Status::Usage,
+            Err(InputEnd::Failed) => Status::InputFault,
+            Err(InputEnd::NoMemory) => Status::NoMemory,
+        },
         Err(InputEnd::Failed) => Status::InputFault,
         Err(InputEnd::NoMemory) => Status::NoMemory,
     }
@@ -161,7 +166,7 @@ pub fn rp_main<I: Inputs, K: Sink, L: Link, C: Clock>(
     let _ = clock;
     match command_of(words) {
         None => Status::Usage,
-        Some(Command::Program(name)) => unbuilt(alloc, name, inputs),
+        Some(Command::Program(program, schedule)) => unbuilt(alloc, program, schedule, inputs),
         Some(Command::Count(frames, name)) => match loaded(alloc, name, inputs) {
             Err(status) => status,
             Ok(schedule) => {
