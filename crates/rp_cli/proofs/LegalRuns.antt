@@ -1,5 +1,5 @@
 -- What is written of an accepted schedule's run is legal.
-use Rattle.std.proofs.Common.{◌≡◌, ◌∙◌, sym, subst, Bool, false, List, [], ◌++◌, ℕ, Option, Some, None, Result, Ok, Err, IfSome, IfOk, ap, refl, take}
+use Rattle.std.proofs.Common.{◌≡◌, ◌∙◌, sym, subst, Bool, false, List, ℕ, Option, Some, None, Result, Ok, Err, IfSome, IfOk, ap, refl, drop}
 use Rattle.std.proofs.lemmas.List.{append-nil}
 use Rattle.rp_app.specs.Application.{counting}
 use Rattle.rp_app.specs.Counting.{counting_promised}
@@ -96,3 +96,8 @@ instead status.NoMemory words contents old h = begins_at old (form_of words) con
 pub legal_instead : (told : Option (List ℕ → Option (List ℕ))) (words : List (List ℕ)) (answer : Status) (old : Option (List ℕ)) → IsNoSchedule answer → IfSome told (λ contents. IsLegalAfter answer (asked words contents) old old)
 legal_instead None words answer old h = tt
 legal_instead (Some contents) words answer old h = instead answer words contents old h
+
+-- where memory ran out before the words of a command line were there
+pub legal_unasked : (line : Option (List (List ℕ))) (told : Option (List ℕ → Option (List ℕ))) (old : Option (List ℕ)) → IfSome line (λ words. IfSome told (λ contents. IsLegalAfter status.NoMemory (asked (drop 1 words) contents) old old))
+legal_unasked None told old = tt
+legal_unasked (Some words) told old = legal_instead told (drop 1 words) status.NoMemory old tt
