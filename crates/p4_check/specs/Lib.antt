@@ -1,0 +1,3 @@
+pub mod Parsers
+pub mod Programs
+pub mod Checking

@@ -1,0 +1,2 @@
+mod Floods
+mod Falling
