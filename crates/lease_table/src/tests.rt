@@ -67,7 +67,10 @@ fn a_flow_goes_from_owner_to_owner(rt: HostRuntime) -> Result<(), Fail> {
     assert!(rt; put(alloc, &mut table, a, 1)?);
     assert!(rt; grant(&mut table, a, 2, 4)?);
     let record = table.get(&a).ok_or("a record")?;
-    assert_eq!(rt; (record.epoch, record.switch, record.last, record.moment), (2, 4, 0, 10));
+    assert_eq!(rt;
+        (record.epoch, record.switch, record.last, record.moment),
+        (2, 4, 0, 10)
+    );
     assert_eq!(rt; record.cells.as_slice(), [0, 7].as_slice());
     Ok(())
 }
