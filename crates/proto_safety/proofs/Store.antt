@@ -6,7 +6,6 @@ pub mod BooksLater
 pub mod BooksStep
 pub mod WorldBooks
 pub mod StoreBooks
-pub mod StoreStands
 pub mod WorldStands
 pub mod BookEpochs
 pub mod BookEpochLaws
@@ -14,7 +13,6 @@ pub mod EpochsCount
 pub mod EpochNumbers
 pub mod Closings
 pub mod WorldFits
-pub mod StoreFits
 pub mod SwitchFits
 pub mod FlowBooks
 pub mod BookMoments

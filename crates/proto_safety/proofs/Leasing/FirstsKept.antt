@@ -27,7 +27,7 @@ use Rattle.proto_safety.proofs.Leasing.SlotFirsts.{NodeFirsts}
 use Rattle.proto_safety.proofs.Nodes.SwitchNodes.{all_changed, all_advanced}
 use Rattle.proto_safety.proofs.Store.LastBook.{advanced_at}
 use Rattle.key_table.proofs.Tables.{same_some}
-use Rattle.proto_safety.proofs.Store.StoreStands.{book_after}
+use Rattle.proto_model.proofs.StoreStands.{book_after}
 use Rattle.proto_safety.proofs.Store.StoreBooks.{SentBooks}
 use Rattle.proto_safety.proofs.Store.BooksStep.{step_sent}
 use Rattle.proto_safety.proofs.Nodes.SwitchSends.{IsRequest}

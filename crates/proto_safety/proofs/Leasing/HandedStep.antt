@@ -30,7 +30,7 @@ use Rattle.proto_safety.proofs.Store.FlowBooks.{stands_flow, granted_in}
 use Rattle.proto_safety.proofs.Leasing.Ground.{Ground, known_of}
 use Rattle.proto_safety.proofs.Leasing.Handed.{GrantBy, as_first, as_own, as_other, as_sent, granted_by, Passed, RunOut, BookHanded, HandedHold, term_passed}
 use Rattle.proto_safety.proofs.Store.StoreBooks.{Has, row_applies, by_forward}
-use Rattle.proto_safety.proofs.Store.StoreStands.{book_after}
+use Rattle.proto_model.proofs.StoreStands.{book_after}
 use Rattle.key_table.proofs.Tables.{same_key-true}
 use Rattle.proto_safety.proofs.Store.Timed.{Timed}
 use Rattle.proto_safety.proofs.Store.WorldBooks.{known_input}

@@ -27,7 +27,7 @@ use Rattle.proto_safety.proofs.Nodes.SwitchNodes.{AllAt, all_changed, all_advanc
 use Rattle.proto_safety.proofs.Messages.FlowReplies.{granted_rests}
 use Rattle.proto_safety.proofs.Nodes.SwitchTable.{msg}
 use Rattle.proto_safety.proofs.Store.LastBook.{advanced_at}
-use Rattle.proto_safety.proofs.Store.StoreStands.{book_after, entries_of-push}
+use Rattle.proto_model.proofs.StoreStands.{book_after, entries_of-push}
 use Rattle.proto_safety.proofs.Store.StoreBooks.{SentBooks}
 use Rattle.proto_safety.proofs.Store.BooksStep.{step_sent, moved_committed}
 use Rattle.proto_safety.proofs.Store.WorldBooks.{known_input, advanced_committed, stopped_grows}

@@ -19,7 +19,7 @@ use Rattle.proto_model.specs.Stands.{entries_of, Stands}
 use Rattle.proto_safety.specs.Books.{In}
 use Rattle.proto_safety.specs.Flows.{flow_in, flow_of, FitsFrom, GrantedNow, AckedIn}
 use Rattle.proto_safety.proofs.Nodes.StoreTable.{Taken, busied, denied, denied_snap, granted_again, acked_again, had, is_owner, covers, message_taken}
-use Rattle.proto_safety.proofs.Store.StoreStands.{book_after, StepStands, step_stands, entries_of-push}
+use Rattle.proto_model.proofs.StoreStands.{book_after, StepStands, step_stands, entries_of-push}
 use Rattle.proto_safety.proofs.Store.FlowBooks.{stands_flow, last_numbered, numbered_put, numbered_snap}
 use Rattle.key_table.proofs.Tables.{get-put_same, same_some, same_key-refl}
 use Rattle.proto_safety.proofs.Basics.Eachs.{each_append, each_if}

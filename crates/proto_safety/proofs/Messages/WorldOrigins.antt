@@ -20,7 +20,7 @@ use Rattle.proto_safety.specs.Books.{In, BooksHold, EntryAt, entries_at}
 use Rattle.proto_safety.specs.Origins.{AskSent, ChunkSent, Origin, OnForward, CameOfRequests}
 use Rattle.proto_safety.proofs.Nodes.StoreTable.{Taken, first_grant, own_grant, other_grant, next_put, next_snap, forwarded}
 use Rattle.proto_safety.proofs.Store.StoreBooks.{Has, row_applies, SentBooks}
-use Rattle.proto_safety.proofs.Store.StoreStands.{book_after, entries_of-push}
+use Rattle.proto_model.proofs.StoreStands.{book_after, entries_of-push}
 use Rattle.proto_safety.proofs.Store.BooksStep.{RowOf, of_message, of_alarm, of_packet, row_of, step_sent}
 use Rattle.proto_safety.proofs.Nodes.SwitchSends.{IsRequest, FromSwitch, RequestMsg, Requests, switch_requests}
 use Rattle.proto_safety.proofs.Inductions.Induction.{Keeps, KeepsGiven, keeps_all, keeps_both, run_kept, Comes}

@@ -19,7 +19,7 @@ use Rattle.proto_safety.specs.SwitchSent.{SentNow}
 use Rattle.proto_safety.specs.StoreSent.{SentBooks, SentReply, SaysBook, entries_then}
 use Rattle.proto_safety.proofs.Store.StoreBooks.{StepSent, alarm_sent, taken_sent}
 use Rattle.proto_safety.proofs.Messages.StoreReplies.{step_replies}
-use Rattle.proto_safety.proofs.Store.StoreStands.{book_after, entries_of-push}
+use Rattle.proto_model.proofs.StoreStands.{book_after, entries_of-push}
 use Rattle.proto_safety.proofs.Nodes.StoreTable.{message_taken}
 use Rattle.proto_safety.proofs.Nodes.SwitchSays.{step_says}
 use Rattle.proto_safety.proofs.Store.WorldBooks.{books_hold}

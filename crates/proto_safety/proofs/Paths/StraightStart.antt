@@ -33,7 +33,7 @@ use Rattle.proto_safety.proofs.Messages.EventFrames.{EventDid, by_switch, by_rep
 use Rattle.proto_safety.proofs.Inductions.FlowInduction.{step_same}
 use Rattle.proto_safety.proofs.Inductions.RunSteps.{event_at, ended, one_later, onward}
 use Rattle.proto_safety.proofs.Store.StoreBooks.{SentBooks}
-use Rattle.proto_safety.proofs.Store.StoreStands.{book_after}
+use Rattle.proto_model.proofs.StoreStands.{book_after}
 use Rattle.proto_safety.proofs.Nodes.SwitchSays.{step_says}
 use Rattle.proto_safety.proofs.Nodes.SwitchSends.{IsRequest}
 use Rattle.key_table.proofs.Tables.{get-put_same}

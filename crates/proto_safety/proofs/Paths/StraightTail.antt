@@ -29,7 +29,7 @@ use Rattle.proto_safety.proofs.Inductions.Induction.{Comes, keeps_both, run_kept
 use Rattle.proto_safety.proofs.Legality.LegalRun.{opened_ground}
 use Rattle.proto_safety.proofs.Inductions.RunSteps.{event_at, kept_between}
 use Rattle.proto_safety.proofs.Messages.StoreReplies.{record_flow}
-use Rattle.proto_safety.proofs.Store.StoreStands.{book_after, entries_of-push}
+use Rattle.proto_model.proofs.StoreStands.{book_after, entries_of-push}
 use Rattle.proto_safety.proofs.Paths.StraightHops.{Answered}
 use Rattle.key_table.proofs.Tables.{same_key-refl}
 use Rattle.proto_safety.proofs.Store.WorldBooks.{books_kept, books_hold, known_input, committed_kept}

@@ -45,7 +45,7 @@ use Rattle.proto_safety.proofs.Snapshots.SnapRounds.{SnapHold}
 use Rattle.proto_safety.proofs.Snapshots.SnapSlots.{Onto, SnapTable, SnapSays, stands_onto, chunk_onto}
 use Rattle.proto_safety.proofs.Snapshots.SnapStep.{step_hold}
 use Rattle.proto_safety.proofs.Store.StoreBooks.{SentBooks}
-use Rattle.proto_safety.proofs.Store.StoreStands.{book_after}
+use Rattle.proto_model.proofs.StoreStands.{book_after}
 use Rattle.proto_safety.proofs.Nodes.SwitchNodes.{AllAt, all_changed, all_advanced}
 use Rattle.proto_safety.proofs.Nodes.SwitchTable.{msg, no_message}
 use Rattle.key_table.proofs.Tables.{same_key-refl, same_key-true}

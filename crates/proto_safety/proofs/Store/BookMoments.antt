@@ -13,7 +13,7 @@ use Rattle.proto_model.specs.Feeds.{Each, Pairwise}
 use Rattle.proto_model.specs.World.{World, Setup, ReplicaNode, opened, below, open_replica_node}
 use Rattle.proto_model.specs.WorldStep.{world_after, advanced_replicas}
 use Rattle.proto_safety.specs.Books.{In}
-use Rattle.proto_safety.proofs.Store.StoreStands.{book_after}
+use Rattle.proto_model.proofs.StoreStands.{book_after}
 use Rattle.key_table.proofs.Tables.{get-put_same, get-put_other, same_key-true, same_key-refl, same_some}
 use Rattle.proto_safety.proofs.Inductions.Induction.{Keeps, run_kept}
 use Rattle.proto_safety.proofs.Basics.Eachs.{each_append, each_at, each_changed, each_in, each_map, each_set, each_weaker}

@@ -23,7 +23,7 @@ use Rattle.proto_safety.proofs.Basics.Places.{prefix_more, entry_later}
 use Rattle.proto_safety.proofs.Store.LastBook.{last_book}
 use Rattle.proto_safety.proofs.Store.BooksLater.{Later, moved_later, node_later, configs_later, frames_later}
 use Rattle.proto_safety.proofs.Nodes.StoreTable.{Taken, message_taken}
-use Rattle.proto_safety.proofs.Store.StoreStands.{book_after, step_stands, length-entries_of}
+use Rattle.proto_model.proofs.StoreStands.{book_after, step_stands, length-entries_of}
 use Rattle.proto_safety.proofs.Store.StoreBooks.{config_after, row_me, row_config, Has, row_applies, ComesBy, at_head, by_forward, taken_comes, taken_adopts, taken_commits, KnownFrom, at_tail, as_before, told, row_known, SentBooks, Sent, taken_sent, alarm_sent}
 use Rattle.proto_safety.proofs.Basics.Eachs.{each_append, each_in, each_weaker}
 use Rattle.proto_safety.proofs.Basics.Lists.{at_set, get-set_same}

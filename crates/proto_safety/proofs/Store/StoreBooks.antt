@@ -19,7 +19,7 @@ use Rattle.proto_model.specs.ReplicaRows.{StoreRow, Loses, Answers, Echoes, Appe
 use Rattle.proto_model.specs.Stands.{Stands, entries_of}
 use Rattle.proto_safety.specs.Books.{EntryAt}
 use Rattle.proto_safety.proofs.Basics.Places.{entry_pushed}
-use Rattle.proto_safety.proofs.Store.StoreStands.{book_after, entries_of-push, length-entries_of}
+use Rattle.proto_model.proofs.StoreStands.{book_after, entries_of-push, length-entries_of}
 use Rattle.proto_safety.proofs.Nodes.StoreTable.{Taken, lost, first_grant, own_grant, other_grant, busied, echoed_ask, denied, denied_snap, next_put, echoed_put, echoed_snap, gathered, next_snap, granted_again, acked_again, had, forwarded, committed, adopted}
 use Rattle.proto_safety.proofs.Basics.Eachs.{each_append, each_if}
 

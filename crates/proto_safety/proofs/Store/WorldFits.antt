@@ -22,7 +22,7 @@ use Rattle.proto_safety.specs.Books.{BooksHold}
 use Rattle.proto_safety.specs.Flows.{flow_in, flow_of, Follows, FitsFrom}
 use Rattle.proto_safety.proofs.Nodes.StoreTable.{Taken, first_grant, own_grant, other_grant, next_put, next_snap, forwarded}
 use Rattle.proto_safety.proofs.Store.StoreBooks.{Has, row_applies, row_cells}
-use Rattle.proto_safety.proofs.Store.StoreStands.{book_after}
+use Rattle.proto_model.proofs.StoreStands.{book_after}
 use Rattle.proto_safety.proofs.Store.BooksStep.{RowOf, of_message, of_alarm, of_packet, row_of}
 use Rattle.proto_safety.proofs.Store.FlowBooks.{stands_flow, fits_push}
 use Rattle.key_table.proofs.Tables.{same_key-true}

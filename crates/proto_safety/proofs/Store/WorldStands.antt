@@ -7,7 +7,7 @@ use Rattle.proto_model.specs.World.{World, Setup, ReplicaNode, opened, below, op
 use Rattle.proto_model.specs.WorldStep.{world_after, advanced_replicas}
 use Rattle.proto_model.specs.Stands.{Stands}
 use Rattle.proto_safety.proofs.Inductions.Induction.{Keeps, run_kept}
-use Rattle.proto_safety.proofs.Store.StoreStands.{step_stands}
+use Rattle.proto_model.proofs.StoreStands.{step_stands}
 use Rattle.proto_safety.proofs.Basics.Eachs.{each_at, each_changed, each_map, each_set}
 
 abbrev pub NodeStands : ReplicaNode → Type 0

@@ -7,7 +7,7 @@ use Rattle.proto_data.specs.declared.message.Entry.{Entry}
 use Rattle.proto_data.specs.declared.message.Carried.{Carried}
 use Rattle.proto_data.specs.declared.message.Input.{Input}
 use Rattle.proto_model.specs.Effects.{added}
-use Rattle.proto_safety.proofs.Store.StoreFits.{StoreFits, row_fits, commit_above, commit_within}
+use Rattle.proto_model.proofs.StoreFits.{StoreFits, row_fits, commit_above, commit_within}
 use Rattle.key_table.specs.Table.{put}
 use Rattle.proto_model.specs.Records.{Booked, records_of, applied}
 use Rattle.proto_model.specs.ReplicaState.{Replica, StoreStep, is_tail, is_member}
