@@ -1,5 +1,5 @@
 -- How large what the nodes of a run keep and send is. Numbers go by the events so far: each event raises each of them by one at most.
-use Rattle.std.specs.Prelude.{ℕ, ◌+◌, ◌≡◌, ◌≤◌, ◌<◌, true, List, [], Option, Some, None, length, slice_get}
+use Rattle.std.specs.Prelude.{ℕ, ◌+◌, ◌≡◌, ◌≤◌, ◌<◌, Bool, true, false, List, [], Option, Some, None, length, slice_get}
 use Rattle.proto_data.specs.declared.message.Msg.{Msg}
 use Rattle.proto_data.specs.declared.message.Body.{Body}
 use Rattle.proto_data.specs.declared.message.Entry.{Entry}
@@ -95,12 +95,23 @@ MsgSized n d m = (nodes_fit m.from m.to m.body ≡ true) × BodySized n d m.body
 
 -- ---- what a switch keeps, where a flow has so many cells
 
+-- a lease was granted, and may have lapsed since
+abbrev pub is_leased : Lease → Bool
+is_leased Idle = false
+is_leased (Asking nonce first) = false
+is_leased (Held nonce epoch expiry) = true
+is_leased (Lapsed nonce epoch expiry) = true
+
 -- a leased slot has all its cells
-abbrev pub LeaseSized : ℕ → ℕ → List ℕ → Lease → Type 0
-LeaseSized n cells values Idle = Unit {0}
-LeaseSized n cells values (Asking nonce first) = nonce ≤ n
-LeaseSized n cells values (Held nonce epoch expiry) = (epoch ≤ n) × (length values ≡ cells)
-LeaseSized n cells values (Lapsed nonce epoch expiry) = (epoch ≤ n) × (length values ≡ cells)
+pub record SlotCells (cells : ℕ) (slot : Slot) : Type 0 where
+  pub cells_are : is_leased slot.lease ≡ true → length slot.cells ≡ cells
+
+-- the number that a lease goes by: the nonce of what is asked, or the epoch of what was granted
+abbrev pub LeaseSized : ℕ → Lease → Type 0
+LeaseSized n Idle = Unit {0}
+LeaseSized n (Asking nonce first) = nonce ≤ n
+LeaseSized n (Held nonce epoch expiry) = epoch ≤ n
+LeaseSized n (Lapsed nonce epoch expiry) = epoch ≤ n
 
 -- a running round, whose next chunk is one of its chunks
 abbrev pub RoundSized : ℕ → Option Round → Type 0
@@ -110,7 +121,8 @@ RoundSized n (Some r) = (r.number ≤ n) × (length r.cells ≤ 256) × (r.chunk
 -- a slot of this flow
 pub record SlotSized (n cells : ℕ) (key : Key) (slot : Slot) : Type 0 where
   pub key_fits : KeySized key
-  pub lease : LeaseSized n cells slot.cells slot.lease
+  pub lease : LeaseSized n slot.lease
+  pub whole : SlotCells cells slot
   pub last : slot.last ≤ n
   pub round : RoundSized n slot.round
 

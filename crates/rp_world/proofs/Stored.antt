@@ -8,7 +8,7 @@ use Rattle.key_table.specs.Table.{Key, same_key, get, put}
 use Rattle.proto_model.specs.ReplicaState.{Replica}
 use Rattle.proto_model.specs.Records.{Records, cells_of, put_applied, applied}
 use Rattle.key_table.proofs.Tables.{same_key-true, get-put_same, get-put_other, same_some}
-use Rattle.proto_safety.proofs.Serial.SlotCells.{length-written}
+use Rattle.rp_app.proofs.Deltas.{length-written}
 use Rattle.rp_world.specs.Store.{IsRecord, AreRecords}
 
 later : {c a : ℕ} {r : Record} → IsRecord c a r → IsRecord c (a + 1) r

@@ -23,7 +23,7 @@ use Rattle.rp_world.specs.OneEach.{IsForSwitch, IsRequest, IsRoutedTo, IsRouted,
 use Rattle.rp_world.specs.SoundRows.{IsSoundRow}
 use Rattle.key_table.specs.Table.{put}
 use Rattle.rp_world.proofs.EachOf.{each_map, each_weaker, each_append, each_filter, each_put, each_get}
-use Rattle.proto_safety.proofs.Serial.SlotCells.{length-written}
+use Rattle.rp_app.proofs.Deltas.{length-written}
 use Rattle.proto_data.specs.declared.limits.TheConstants.{COPIES, SLOTS}
 
 module _ (count : ℕ) where

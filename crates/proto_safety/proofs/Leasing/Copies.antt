@@ -13,15 +13,10 @@ use Rattle.proto_model.specs.SwitchRows.{switch_step}
 use Rattle.proto_model.specs.SwitchAlarm.{alarm, Walk, due_copies, other_copies, is_due, walk_order}
 use Rattle.proto_safety.proofs.Inductions.AlarmInduction.{WalkKeeps, walk_kept}
 use Rattle.proto_model.specs.Feeds.{Each}
+use Rattle.proto_safety.specs.Sizes.{is_leased}
 use Rattle.key_table.proofs.Tables.{get-put_same, get-put_other, get-map_values, same_key-true, same_key-sym, same_some}
 use Rattle.proto_safety.proofs.Store.SwitchFits.{SwitchFits, Prepared, was_held, was_asking, forgot, aged, row_fits, ask_again, drops, direct, mirrored, granted_only, acked, round_done, busied}
 use Rattle.proto_safety.proofs.Basics.Eachs.{each_append, each_filter, each_if, each_weaker}
-
-abbrev pub is_leased : Lease → Bool
-is_leased Idle = false
-is_leased (Asking nonce first) = false
-is_leased (Held nonce epoch expiry) = true
-is_leased (Lapsed nonce epoch expiry) = true
 
 -- the copy's slot
 pub record HasSlot (slots : Table Slot) (c : Copy) : Type 0 where

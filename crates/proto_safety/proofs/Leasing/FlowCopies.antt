@@ -10,7 +10,8 @@ use Rattle.key_table.specs.Table.{Key, same_key}
 use Rattle.proto_model.specs.Slot.{epoch_of, Slot, Lease, Idle, Asking, Held, Lapsed, lapsed_slot}
 use Rattle.proto_model.specs.SwitchState.{slot_at, Copy, Item, is_of, is_covered}
 use Rattle.proto_safety.specs.Books.{In}
-use Rattle.proto_safety.proofs.Leasing.Copies.{is_leased, still_leased, acked_leased}
+use Rattle.proto_safety.specs.Sizes.{is_leased}
+use Rattle.proto_safety.proofs.Leasing.Copies.{still_leased, acked_leased}
 use Rattle.proto_safety.proofs.Inductions.FlowMoves.{View, Move, elsewhere, lapses, asks, asks_again, takes_grant, forgets, direct, mirrored, acked, idles, resends, keeps_lease, snapped, round_done, sends_chunk, begins_round, SameCopies}
 use Rattle.proto_safety.proofs.Inductions.FlowInduction.{FlowKeeps, Holds, flows_hold}
 use Rattle.rp_base.specs.declared.event.Event.{Event}

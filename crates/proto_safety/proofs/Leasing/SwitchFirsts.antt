@@ -27,7 +27,8 @@ use Rattle.key_table.proofs.Tables.{get-map_values, same_key-true, same_key-refl
 use Rattle.proto_safety.proofs.Nodes.SwitchTable.{msg, RowTaken, Ready, fed, at_grant, at_grant_again, first_ask, ask_idle, ask_anew, ask_lapsed, ask_again, no_copy_room, direct, mirrored, snapped, too_old, granted_only, late, acked, round_done, denied, busied, row_taken}
 use Rattle.proto_safety.proofs.Inductions.AlarmInduction.{WalkKeeps, walk_kept, new_round, round_slot}
 use Rattle.proto_safety.proofs.Inductions.FlowMoves.{chunk_slot}
-use Rattle.proto_safety.proofs.Leasing.Copies.{Fit, HasSlot, is_leased}
+use Rattle.proto_safety.specs.Sizes.{is_leased}
+use Rattle.proto_safety.proofs.Leasing.Copies.{Fit, HasSlot}
 use Rattle.proto_safety.proofs.Nodes.SwitchSays.{Tidy, tidy_lapsed}
 use Rattle.proto_safety.proofs.Serial.SlotCells.{mapped}
 use Rattle.proto_safety.proofs.Leasing.SlotFirsts.{NodeFirsts, Counted, Untouched, not_asking, acked_epoch, lapsed_epoch, lapsed_asking, has_leased, put_firsts, same_copies, fewer_copies, pushed_copies, NoRound, next_new, next_firsts, begun_firsts, same_counted, next_counted}

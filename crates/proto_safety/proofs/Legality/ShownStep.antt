@@ -30,7 +30,7 @@ use Rattle.proto_safety.proofs.Store.BookEpochs.{WasGranted, was_granted}
 use Rattle.proto_safety.proofs.Serial.CellFacts.{CellFacts, CellsHold, closing_entries}
 use Rattle.proto_safety.proofs.Serial.CellsStep.{Brought, live_from, row_facts, before, made_direct, made_put}
 use Rattle.proto_safety.proofs.Store.EpochNumbers.{Reaches, closing_reaches, number_epoch}
-use Rattle.proto_safety.proofs.Serial.SlotCells.{length-written}
+use Rattle.rp_app.proofs.Deltas.{length-written}
 use Rattle.proto_safety.proofs.Leasing.FlowCopies.{not_strict}
 use Rattle.proto_safety.proofs.Inductions.FlowMoves.{ready_held}
 use Rattle.proto_safety.proofs.Serial.FlowSerial.{ran, packs}

@@ -19,7 +19,8 @@ use Rattle.proto_safety.specs.Books.{In}
 use Rattle.proto_safety.specs.SwitchSent.{SaysNow, SentNow}
 use Rattle.key_table.proofs.Tables.{same_key-true, get-put_same, get-put_other, same_some}
 use Rattle.proto_safety.proofs.Basics.TableKeys.{KeysDiffer, differ_map, member_found}
-use Rattle.proto_safety.proofs.Leasing.Copies.{is_leased, HasSlot, Fit, same_lease}
+use Rattle.proto_safety.specs.Sizes.{is_leased}
+use Rattle.proto_safety.proofs.Leasing.Copies.{HasSlot, Fit, same_lease}
 use Rattle.proto_safety.proofs.Inductions.AlarmInduction.{WalkKeeps, walk_kept}
 use Rattle.proto_safety.proofs.Inductions.FlowMoves.{ready_held, chunk_slot}
 use Rattle.proto_safety.proofs.Inductions.FlowAlarm.{in_due}

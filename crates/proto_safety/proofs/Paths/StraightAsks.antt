@@ -40,7 +40,7 @@ use Rattle.proto_safety.specs.SwitchSent.{SaysNow}
 use Rattle.proto_safety.proofs.Serial.CellsGround.{Based, based_kept}
 use Rattle.proto_safety.proofs.Serial.CellsStep.{no_snap}
 use Rattle.proto_safety.proofs.Leasing.CopyRoom.{few_copies}
-use Rattle.proto_safety.proofs.Serial.SlotCells.{length-written}
+use Rattle.rp_app.proofs.Deltas.{length-written}
 use Rattle.proto_safety.proofs.Inductions.FlowInduction.{step_same}
 use Rattle.proto_safety.proofs.Inductions.Induction.{run_kept}
 use Rattle.proto_safety.proofs.Legality.LegalRun.{opened_laid}

@@ -31,7 +31,8 @@ use Rattle.proto_safety.specs.Origins.{Origin, SnapSent, ChunkSent}
 use Rattle.proto_safety.specs.SwitchSent.{SentNow, PutsNow, SaysNow}
 use Rattle.proto_safety.proofs.Store.BookEpochs.{one_grant}
 use Rattle.proto_safety.proofs.Serial.CellFacts.{CellFacts, CellsHold, OwnGrant, SentPut, GrantSaid, number_low, was_slot, was_held}
-use Rattle.proto_safety.proofs.Leasing.Copies.{HasSlot, is_leased}
+use Rattle.proto_safety.specs.Sizes.{is_leased}
+use Rattle.proto_safety.proofs.Leasing.Copies.{HasSlot}
 use Rattle.proto_safety.proofs.Store.EpochNumbers.{IsNumber, number_epoch, number_value}
 use Rattle.proto_safety.proofs.Store.FlowBooks.{Numbered, last_numbered}
 use Rattle.proto_safety.proofs.Serial.FlowCells.{CellsOf, other_flow_item}

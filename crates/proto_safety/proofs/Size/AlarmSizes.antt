@@ -1,5 +1,5 @@
 -- An Alarm of a switch raises the last number of a slot by one at most, and sends sized messages.
-use Rattle.std.proofs.Common.{◌≡◌, ◌⊎◌, ℕ, ◌+◌, ◌≤◌, ◌<◌, List, [], ◌∷◌, ◌++◌, length, map, Option, Some, None, arith, refl, true, false, Bool, subst, inl, inr}
+use Rattle.std.proofs.Common.{◌≡◌, ◌⊎◌, ℕ, ◌+◌, ◌≤◌, ◌<◌, List, [], ◌∷◌, ◌++◌, length, map, Option, Some, None, arith, refl, ap, true, false, Bool, subst, inl, inr}
 use Rattle.std.specs.Prelude.{◌/◌, is_some, nat_lt, if◌then◌else◌, unwrap_or, option_and_then, ◌&&◌, ◌||◌}
 use Rattle.std.specs.List.{list_any}
 use Rattle.std.proofs.lemmas.Bool.{both_ways, ltb-true, lt-ltb, and_from}
@@ -14,7 +14,7 @@ use Rattle.key_table.specs.Table.{Key, Table}
 use Rattle.proto_model.specs.Slot.{Slot, Lease, Round, Idle, Asking, Held, Lapsed, epoch_of, is_young, chunk_count, chunk_of}
 use Rattle.proto_model.specs.SwitchState.{Switch, Copy, slot_at, is_of, has_copies, head_node}
 use Rattle.proto_model.specs.SwitchAlarm.{Walk, alarm, due_copies, other_copies, resent_put, repeated_ask, repeated_asks, walk_order}
-use Rattle.proto_safety.specs.Sizes.{KeySized, MsgSized, ConfigSized, LeaseSized, RoundSized, SlotSized, CopySized, SwitchSized, delta_room}
+use Rattle.proto_safety.specs.Sizes.{is_leased, SlotCells, KeySized, MsgSized, ConfigSized, LeaseSized, RoundSized, SlotSized, CopySized, SwitchSized, delta_room}
 use Rattle.proto_safety.proofs.Size.SizesUp.{slot_up, copy_up, config_up}
 use Rattle.proto_safety.proofs.Size.SizesOf.{each_put, each_get, head_is, no_delta, chunk_some, chunk_few}
 use Rattle.key_table.proofs.Tables.{same_key-refl}
@@ -66,18 +66,19 @@ any_last key (x ∷ xs) c h = last_case (is_of key x) (any_last key xs c h)
     last_case true rest = refl
     last_case false rest = rest
 
-pub leased_epoch : (m cells : ℕ) (values : List ℕ) (lease : Lease) (nonce epoch expiry : ℕ) → lease ≡ Held nonce epoch expiry → LeaseSized m cells values lease → (epoch ≤ m) × (length values ≡ cells)
-leased_epoch m cells values lease nonce epoch expiry is h = subst (λ (l : Lease). LeaseSized m cells values l) is h
+-- the epoch and the cells of a slot whose lease is held
+pub held_slot : (m cells : ℕ) (key : Key) (slot : Slot) (nonce epoch expiry : ℕ) → slot.lease ≡ Held nonce epoch expiry → SlotSized m cells key slot → (epoch ≤ m) × (length slot.cells ≡ cells)
+held_slot m cells key slot nonce epoch expiry is h = (subst (λ (l : Lease). LeaseSized m l) is h.lease, h.whole.cells_are (ap is_leased is))
 
-lease_epoch : (m cells : ℕ) (values : List ℕ) (lease : Lease) → LeaseSized m cells values lease → unwrap_or (epoch_of lease) 0 ≤ m
-lease_epoch m cells values Idle h = omega arith
-lease_epoch m cells values (Asking nonce first) h = omega arith
-lease_epoch m cells values (Held nonce epoch expiry) h = h.0
-lease_epoch m cells values (Lapsed nonce epoch expiry) h = h.0
+lease_epoch : (m : ℕ) (lease : Lease) → LeaseSized m lease → unwrap_or (epoch_of lease) 0 ≤ m
+lease_epoch m Idle h = omega arith
+lease_epoch m (Asking nonce first) h = omega arith
+lease_epoch m (Held nonce epoch expiry) h = h
+lease_epoch m (Lapsed nonce epoch expiry) h = h
 
 epoch_sized : (m cells : ℕ) (s : Switch) (key : Key) (o : Option Slot) → slot_at s key ≡ o → Each (λ (e : Key × Slot). SlotSized m cells e.0 e.1) s.slots → unwrap_or (option_and_then (λ (slot : Slot). epoch_of slot.lease) o) 0 ≤ m
 epoch_sized m cells s key None at h = omega arith
-epoch_sized m cells s key (Some slot) at h = lease_epoch m cells slot.cells slot.lease (each_get (λ k v. SlotSized m cells k v) s.slots key slot at h).lease
+epoch_sized m cells s key (Some slot) at h = lease_epoch m slot.lease (each_get (λ k v. SlotSized m cells k v) s.slots key slot at h).lease
 
 module _ (n cells : ℕ) (few : cells ≤ 256) (terms : Terms) (now : ℕ) where
   abbrev Fits : Msg → Type 0
@@ -118,12 +119,12 @@ module _ (n cells : ℕ) (few : cells ≤ 256) (terms : Terms) (now : ℕ) where
       × MsgSized (n + 1) (delta_room terms.mode cells) (record { from = Node.Switch w.state.me; to = head_node w.state.config.chain; body = Body.Snap w.state.inc epoch r.number key r.chunk (chunk_count (length r.cells)) (chunk_of r.chunk r.cells) })
   chunk_sized w key slot nonce epoch expiry bound r mode is s k h q below = (
     record {
-      sized = record { key_fits = s.key_fits; lease = s.lease; last = s.last; round = (k.0, k.1, below) };
+      sized = record { key_fits = s.key_fits; lease = s.lease; whole = record { cells_are = s.whole.cells_are }; last = s.last; round = (k.0, k.1, below) };
       last = inr ((λ strict. two_modes w.state.terms.mode bound strict mode), (λ b m. refl));
     },
     (
       to_head_is (n + 1) w.state h.sender,
-      (h.sender.inc, (leased_epoch (n + 1) cells slot.cells slot.lease nonce epoch expiry is s.lease).0, k.0, s.key_fits, k.2, chunk_few (length r.cells) k.1, length_take_le 32 _),
+      (h.sender.inc, (held_slot (n + 1) cells key slot nonce epoch expiry is s).0, k.0, s.key_fits, k.2, chunk_few (length r.cells) k.1, length_take_le 32 _),
     ),
   )
 
@@ -140,14 +141,14 @@ module _ (n cells : ℕ) (few : cells ≤ 256) (terms : Terms) (now : ℕ) where
               nonces = h.nonces;
               slots = each_put (λ k v. WalkSlot n cells w.state.terms.mode (w.state.copies ++ c ∷ []) k v) w.state.slots key _
                   (record {
-                    sized = record { key_fits = s.sized.key_fits; lease = s.sized.lease; last = omega (arith, last); round = s.sized.round };
+                    sized = record { key_fits = s.sized.key_fits; lease = s.sized.lease; whole = record { cells_are = s.sized.whole.cells_are }; last = omega (arith, last); round = s.sized.round };
                     last = inr ((λ strict. any_last key w.state.copies c (same_key-refl key)), (λ bound m. two_modes w.state.terms.mode bound mode m));
                   })
                   (each_weaker _ _ w.state.slots (λ e k. copies_more w.state.terms.mode w.state.copies c e.0 e.1 k) h.slots);
               copies = each_append _ w.state.copies (c ∷ []) h.copies (record { key = s.sized.key_fits; number = omega (arith, last); delta = no_delta _ }, tt);
               sent = one_more w.sent _ h.sent (
                 to_head_is (n + 1) w.state h.sender,
-                (h.sender.inc, (leased_epoch (n + 1) cells slot.cells slot.lease nonce epoch expiry is s.sized.lease).0, omega (arith, last), s.sized.key_fits, no_delta _, tt),
+                (h.sender.inc, (held_slot (n + 1) cells key slot nonce epoch expiry is s.sized).0, omega (arith, last), s.sized.key_fits, no_delta _, tt),
               );
             };
         goes_on = λ w key slot nonce epoch expiry r at is bound mode o h.
@@ -166,9 +167,9 @@ module _ (n cells : ℕ) (few : cells ≤ 256) (terms : Terms) (now : ℕ) where
             let s = slot_of w key slot at h in
             let last : slot.last ≤ n = no_round_last w key slot bound mode o s in
             let r : Round = new_round slot now in
-            let leased = leased_epoch (n + 1) cells slot.cells slot.lease nonce epoch expiry is s.sized.lease in
+            let leased = held_slot (n + 1) cells key slot nonce epoch expiry is s.sized in
             let k : RoundSized (n + 1) (Some r) = (omega (arith, last), omega (arith, leased.1), chunk_some (length r.cells)) in
-            let t : SlotSized (n + 1) cells key (round_slot slot) = record { key_fits = s.sized.key_fits; lease = s.sized.lease; last = omega (arith, last); round = s.sized.round } in
+            let t : SlotSized (n + 1) cells key (round_slot slot) = record { key_fits = s.sized.key_fits; lease = s.sized.lease; whole = record { cells_are = s.sized.whole.cells_are }; last = omega (arith, last); round = s.sized.round } in
             let c = chunk_sized w key (round_slot slot) nonce epoch expiry bound r mode is t k h _ (chunk_next r (nat_lt (r.chunk + 1) (chunk_count (length r.cells))) refl) in
             record {
               sender = record { me = h.sender.me; inc = h.sender.inc; config = h.sender.config };
@@ -187,16 +188,16 @@ module _ (n cells : ℕ) (few : cells ≤ 256) (terms : Terms) (now : ℕ) where
           more_case (inl le) = inl le
           more_case (inr b) = inr ((λ m. any_more key cs c (b.0 m)), b.1)
 
-  ask_sized : (s : Switch) (key : Key) (values : List ℕ) (lease : Lease) → Sender (n + 1) s → KeySized key → LeaseSized n cells values lease → Each Fits (repeated_ask s now key lease)
-  ask_sized s key values (Asking nonce first) h k l =
+  ask_sized : (s : Switch) (key : Key) (lease : Lease) → Sender (n + 1) s → KeySized key → LeaseSized n lease → Each Fits (repeated_ask s now key lease)
+  ask_sized s key (Asking nonce first) h k l =
       each_if Fits (is_young s.terms.t_switch first now) _ [] ((to_head_is (n + 1) s h, (h.inc, omega (arith, l), k, tt)), tt) tt
-  ask_sized s key values Idle h k l = tt
-  ask_sized s key values (Held nonce epoch expiry) h k l = tt
-  ask_sized s key values (Lapsed nonce epoch expiry) h k l = tt
+  ask_sized s key Idle h k l = tt
+  ask_sized s key (Held nonce epoch expiry) h k l = tt
+  ask_sized s key (Lapsed nonce epoch expiry) h k l = tt
 
   asks_sized : (s : Switch) (slots : Table Slot) → Sender (n + 1) s → Each (λ (e : Key × Slot). SlotSized n cells e.0 e.1) slots → Each Fits (repeated_asks s now slots)
   asks_sized s [] h k = tt
-  asks_sized s (e ∷ es) h k = each_append Fits (repeated_ask s now e.0 e.1.lease) _ (ask_sized s e.0 e.1.cells e.1.lease h k.0.key_fits k.0.lease) (asks_sized s es h k.1)
+  asks_sized s (e ∷ es) h k = each_append Fits (repeated_ask s now e.0 e.1.lease) _ (ask_sized s e.0 e.1.lease h k.0.key_fits k.0.lease) (asks_sized s es h k.1)
 
   again_sized : (s : Switch) (c : Copy) → SwitchSized n cells terms s → Sender (n + 1) s → CopySized n (delta_room terms.mode cells) c → Fits (resent_put s c)
   again_sized s c h k d = (

@@ -53,18 +53,18 @@ module _ (n m : ℕ) (le : n ≤ m) where
   pub msg_up : (d : ℕ) (x : Msg) → MsgSized n d x → MsgSized m d x
   msg_up d x h = (h.0, body_up d x.body h.1)
 
-  lease_up : (cells : ℕ) (values : List ℕ) (lease : Lease) → LeaseSized n cells values lease → LeaseSized m cells values lease
-  lease_up cells values Idle h = tt
-  lease_up cells values (Asking nonce first) h = omega arith
-  lease_up cells values (Held nonce epoch expiry) h = (omega (arith, h.0), h.1)
-  lease_up cells values (Lapsed nonce epoch expiry) h = (omega (arith, h.0), h.1)
+  lease_up : (lease : Lease) → LeaseSized n lease → LeaseSized m lease
+  lease_up Idle h = tt
+  lease_up (Asking nonce first) h = omega arith
+  lease_up (Held nonce epoch expiry) h = omega arith
+  lease_up (Lapsed nonce epoch expiry) h = omega arith
 
   round_up : (o : Option Round) → RoundSized n o → RoundSized m o
   round_up None h = tt
   round_up (Some r) h = (omega (arith, h.0), h.1, h.2)
 
   pub slot_up : (cells : ℕ) (key : Key) (slot : Slot) → SlotSized n cells key slot → SlotSized m cells key slot
-  slot_up cells key slot h = record { key_fits = h.key_fits; lease = lease_up cells slot.cells slot.lease h.lease; last = omega (arith, h.last); round = round_up slot.round h.round }
+  slot_up cells key slot h = record { key_fits = h.key_fits; lease = lease_up slot.lease h.lease; whole = h.whole; last = omega (arith, h.last); round = round_up slot.round h.round }
 
   pub copy_up : (d : ℕ) (c : Copy) → CopySized n d c → CopySized m d c
   copy_up d c h = record { key = h.key; number = omega (arith, h.number); delta = h.delta }

@@ -22,7 +22,7 @@ use Rattle.proto_model.specs.ReplicaRows.{StoreRow, Appends, Resends, store_row,
 use Rattle.proto_safety.specs.Sizes.{LoadSized, MarkSized, EntrySized, EchoedSized, BodySized, MsgSized, ConfigSized, RecordSized, GatheredSized, ReplicaSized}
 use Rattle.proto_safety.proofs.Size.SizesUp.{replica_up}
 use Rattle.proto_safety.proofs.Size.SizesOf.{each_put, each_get, last_is, successor_is, predecessor_is}
-use Rattle.proto_safety.proofs.Serial.SlotCells.{length-written}
+use Rattle.rp_app.proofs.Deltas.{length-written}
 use Rattle.proto_safety.proofs.Nodes.StoreTable.{Taken, Asked, WasPut, IsGathered, itself, echo, itself_put, itself_snap, echo_put, lost, first_grant, own_grant, other_grant, busied, echoed_ask, denied, denied_snap, next_put, echoed_put, echoed_snap, gathered, next_snap, granted_again, acked_again, had, forwarded, committed, adopted, message_taken}
 use Rattle.proto_safety.proofs.Basics.Eachs.{each_append, each_drop, each_if, each_set, each_take}
 
