@@ -1,0 +1,3 @@
+pub mod Gatherings
+pub mod Rows
+pub mod Stores
