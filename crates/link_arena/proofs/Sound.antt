@@ -135,6 +135,9 @@ module _ {T : Type 0} where
     pub live_is : live (seen s a b room) ≡ slab_len s
     live_is = all_lengths s (lists_of Which.A s a) (valued Which.A s a h.a) ∙ sym h.count_a
 
+    pub live_both : live (seen s a b room) ≡ sum_by length (seen s a b room).b
+    live_both = live_is ∙ (h.count_b ∙ sym (all_lengths s (lists_of Which.B s b) (valued Which.B s b h.b)))
+
     pub order_of : (which : Which) → InOrder which s (of_kind which a b)
     order_of Which.A = h.a
     order_of Which.B = h.b
@@ -491,6 +494,9 @@ module _ {T : Type 0} where
 
   pub full_seen : (s : Slab (Node T)) (a b : List Ends) (room : ℕ) (v : Lists T) → seen s a b room ≡ v → IsSound s a b room → live v ≡ slab_len s
   full_seen s a b room v is h = ap live (sym is) ∙ live_is s a b room h
+
+  pub both_seen : (s : Slab (Node T)) (a b : List Ends) (room : ℕ) (v : Lists T) → seen s a b room ≡ v → IsSound s a b room → live v ≡ sum_by length v.b
+  both_seen s a b room v is h = subst (λ (w : Lists T). live w ≡ sum_by length w.b) is (live_both s a b room h)
 
   pub room_seen : (s : Slab (Node T)) (a b : List Ends) (room : ℕ) (v : Lists T) → seen s a b room ≡ v → v.room ≡ room
   room_seen s a b room v is = ap (λ (x : Lists T). x.room) (sym is)

@@ -1,5 +1,5 @@
 //! The arena: its nodes stand in one table, the ends of its lists beside it.
-ghost use Rattle.std.specs.Prelude.{◌≡◌, ◌<◌, ◌↔◌, Some, IfOk, IfErr, IsErr, [], length, replicate, slice_index_or};
+ghost use Rattle.std.specs.Prelude.{◌≡◌, ◌<◌, ◌↔◌, Some, IfOk, IfErr, IsErr, [], length, replicate, slice_index_or, sum_by};
 ghost use Rattle.std.specs.Borrow.{Lends, sem};
 
 use crate::chain::{ends_of_kind, move_last, put_last, take_off};
@@ -75,6 +75,7 @@ impl<T> Arena<T> {
         requires a { a < length self.old.a }
         requires b { b < length self.old.b }
         ensures full { IsErr result ↔ (live self.old ≡ self.old.room) }
+        ensures both { live self.old ≡ sum_by length self.old.b }
         ensures free { IfOk result (λ id. IsFree self.old id) }
         ensures ok { IfOk result (λ id. self.new ≡ with_node self.old a b id value) }
         ensures err { IfErr result (λ back. (back.1 ≡ value) × (self.new ≡ self.old)) }

@@ -5,7 +5,8 @@ ghost use Rattle.std.specs.Prelude.{◌≡◌};
 use std::marker::Model;
 
 /// The name of a node of an `Arena`. It is the node's from `add` to `remove`, and may be given to another node after that.
-#[derive(Clone, Copy, Debug, PartialEq, Eq)]
+/// The default is a name like any other; it may be no node's.
+#[derive(Clone, Copy, Debug, Default, PartialEq, Eq)]
 pub struct Id {
     place: usize,
 }

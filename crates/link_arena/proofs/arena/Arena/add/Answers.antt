@@ -1,7 +1,7 @@
 use Rattle.std.proofs.Common.{ap, ◌∙◌, sym, arith, ◌≡◌}
 use Rattle.link_arena.specs.Lists.{with_node}
 use Rattle.link_arena.specs.declared.node.Which.{Which}
-use Rattle.link_arena.proofs.Sound.{in_a, in_b, full_seen, room_seen, free_seen, new_loose, room_a, room_b, second_loose, sound_added, seen_added}
+use Rattle.link_arena.proofs.Sound.{in_a, in_b, full_seen, both_seen, room_seen, free_seen, new_loose, room_a, room_b, second_loose, sound_added, seen_added}
 use Rattle.link_arena.proofs.arena.Arena.add.Goals as goal
 
 pub returns-then-len-self-clause-full : goal.returns-then-len-self-clause-full
@@ -9,6 +9,12 @@ returns-then-len-self-clause-full g c =
     let live_is = full_seen c.self.inside.nodes _ _ _ _ c.self.view_is c.self.invariant in
     let room_is = room_seen c.self.inside.nodes _ _ _ _ c.self.view_is in
     (λ e. omega (arith, live_is, room_is, c.len.ensures, c.if-len-self.true, c.self.invariant.few), λ e. search (arith))
+
+pub returns-then-len-self-clause-both : goal.returns-then-len-self-clause-both
+returns-then-len-self-clause-both g c = both_seen c.self.inside.nodes _ _ _ _ c.self.view_is c.self.invariant
+
+pub returns-clause-both : goal.returns-clause-both
+returns-clause-both g c = both_seen c.self.inside.nodes _ _ _ _ c.self.view_is c.self.invariant
 
 pub put_last-requires-clause-loose : goal.put_last-requires-clause-loose
 put_last-requires-clause-loose g c = new_loose _ _ _ _ c.insert_reserved-at.ensures.was_vacant c.insert_reserved-at.ensures.updates Which.A _ c.self.invariant.a

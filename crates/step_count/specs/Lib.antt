@@ -1,0 +1,1 @@
+-- How many steps a call takes has no definitions of its own.
