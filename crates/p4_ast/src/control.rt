@@ -5,7 +5,7 @@ use crate::expression::P4Expr;
 use crate::name::{P4Name, P4Number};
 use crate::statement::P4Block;
 use crate::table::P4Table;
-use sqlite_items::Items;
+use sqlite_items::{Boxed, Items};
 
 /// A parameter of a parser or control whose type is a name; its place is that of `in`, `out` or `inout`.
 #[derive(Debug, Drop)]
@@ -44,7 +44,7 @@ pub struct P4Var {
     pub at: u64,
     pub type_: P4Type,
     pub name: P4Name,
-    pub expr: Option<P4Expr>,
+    pub expr: Option<Boxed<P4Expr>>,
 }
 
 /// `cell`

@@ -2,7 +2,7 @@
 
 use crate::expression::P4Expr;
 use crate::name::{P4Name, P4Number};
-use sqlite_items::Items;
+use sqlite_items::{Boxed, Items};
 
 /// `type`
 #[derive(Debug, Drop)]
@@ -53,7 +53,7 @@ pub struct P4Const {
     pub at: u64,
     pub type_: P4Type,
     pub name: P4Name,
-    pub expr: P4Expr,
+    pub expr: Boxed<P4Expr>,
 }
 
 /// What may stand before the parser.

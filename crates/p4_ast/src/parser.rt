@@ -4,7 +4,7 @@ use crate::control::P4Param;
 use crate::expression::P4Expr;
 use crate::name::{P4Name, P4Path};
 use crate::statement::P4Assign;
-use sqlite_items::Items;
+use sqlite_items::{Boxed, Items};
 
 /// `parser`. `packet`, `headers`, `meta` and `std` are its four parameters.
 #[derive(Debug, Drop)]
@@ -60,7 +60,7 @@ pub enum P4Target {
 #[derive(Debug, Drop)]
 pub struct P4Case {
     pub at: u64,
-    pub keyset: P4Keyset,
+    pub keyset: Boxed<P4Keyset>,
     pub name: P4Name,
 }
 
@@ -83,7 +83,7 @@ pub enum P4One {
     /// `expr` or `expr &&& mask`
     Expr {
         at: u64,
-        expr: P4Expr,
-        mask: Option<P4Expr>,
+        expr: Boxed<P4Expr>,
+        mask: Option<Boxed<P4Expr>>,
     },
 }

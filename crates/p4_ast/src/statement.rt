@@ -4,7 +4,7 @@ use crate::control::P4Var;
 use crate::declaration::P4Type;
 use crate::expression::P4Expr;
 use crate::name::{P4Left, P4Name, P4Path};
-use sqlite_items::Items;
+use sqlite_items::{Boxed, Items};
 
 /// `block`. Empty statements aren't kept.
 #[cycle(ast)]
@@ -45,7 +45,7 @@ pub struct P4If {
 pub struct P4Assign {
     pub at: u64,
     pub left: P4Left,
-    pub expr: P4Expr,
+    pub expr: Boxed<P4Expr>,
 }
 
 /// `read`: `left = (type_) name.read(expr);`
@@ -53,9 +53,9 @@ pub struct P4Assign {
 pub struct P4Read {
     pub at: u64,
     pub left: P4Left,
-    pub type_: Option<P4Type>,
+    pub type_: Option<Boxed<P4Type>>,
     pub name: P4Name,
-    pub expr: Option<P4Expr>,
+    pub expr: Option<Boxed<P4Expr>>,
 }
 
 /// `write`: `name.write(expr);` or `name.write(expr, second);`
@@ -63,15 +63,15 @@ pub struct P4Read {
 pub struct P4Write {
     pub at: u64,
     pub name: P4Name,
-    pub expr: P4Expr,
-    pub second: Option<P4Expr>,
+    pub expr: Boxed<P4Expr>,
+    pub second: Option<Boxed<P4Expr>>,
 }
 
 /// `keystmt`: `flow_key(expr);`
 #[derive(Debug, Drop)]
 pub struct P4Keystmt {
     pub at: u64,
-    pub expr: P4Expr,
+    pub expr: Boxed<P4Expr>,
 }
 
 /// `valid`: `path.setValid();` or `path.setInvalid();`
@@ -107,7 +107,7 @@ pub struct P4Callstmt {
 /// `cond`
 #[derive(Debug, Drop)]
 pub enum P4Cond {
-    Expr(P4Expr),
+    Expr(Boxed<P4Expr>),
     /// `name.apply().outcome`; `negated` is whether `!` stands before it.
     Apply {
         at: u64,

@@ -3,7 +3,7 @@
 use crate::expression::P4Expr;
 use crate::name::{P4Name, P4Number};
 use crate::parser::P4Keyset;
-use sqlite_items::Items;
+use sqlite_items::{Boxed, Items};
 
 /// `table`. The order of `default`, `entries` and `size` isn't kept.
 #[derive(Debug, Drop)]
@@ -28,7 +28,7 @@ pub struct P4Keys {
 #[derive(Debug, Drop)]
 pub struct P4Key {
     pub at: u64,
-    pub expr: P4Expr,
+    pub expr: Boxed<P4Expr>,
     pub matching: P4Match,
 }
 
@@ -67,7 +67,7 @@ pub struct P4Entries {
 #[derive(Debug, Drop)]
 pub struct P4Entry {
     pub at: u64,
-    pub keyset: P4Keyset,
+    pub keyset: Boxed<P4Keyset>,
     pub call: P4Call,
 }
 

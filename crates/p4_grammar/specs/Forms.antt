@@ -1,5 +1,5 @@
 -- Languages with values, and readers with one token in hand.
-use Rattle.std.specs.Prelude.{◌≡◌, ℕ, zero, suc, Bool, true, false, cond, List, [], ◌∷◌, ◌++◌, Result, Ok, Err, Option, Some, None, ◌⊎◌}
+use Rattle.std.specs.Prelude.{◌≡◌, ℕ, zero, suc, Bool, true, false, cond, List, [], ◌∷◌, ◌++◌, Result, Ok, Err, ◌⊎◌}
 use Rattle.p4_lex.specs.declared.token.Token.{Token}
 
 -- ---- languages: which tokens spell which value
@@ -103,12 +103,6 @@ ended x (a ∷ r) = Err (a ∷ r)
 
 abbrev pub all_at : {A : Type 0} → Reader A → List Token → Result A (List Token)
 all_at p w = p w >>= λ x. ended x.0 x.1
-
--- What a function returned is what reading gives, unless memory ran out (no place).
-abbrev pub Gives : {X Y E : Type 0} → (X → Y) → (E → List Token) → Result X (Option E) → Result Y (List Token) → Type 0
-Gives view at (Ok x) read = read ≡ Ok (view x)
-Gives view at (Err None) read = Unit {0}
-Gives view at (Err (Some e)) read = read ≡ Err (at e)
 
 -- ---- a loop that changes a state while the token in hand passes the test
 

@@ -1,7 +1,10 @@
 -- What expressions are made of: operators, and values with the mark of their spelling.
-use Rattle.std.specs.Prelude.{ℕ, Bool, true, false, cond, if◌then◌else◌, List, [], ◌∷◌, ◌++◌, map, Result, Ok, Err, Option, Some, None, codes}
+use Rattle.std.specs.Prelude.{ℕ, Bool, true, false, cond, List, [], ◌∷◌, map, Result, Ok, Err, Option, Some, None, codes}
 use Rattle.std.specs.List.{list_any}
 use Rattle.std.specs.Str.{bytes_eq}
+use Rattle.std.specs.Ordering.{nat_cmp}
+use Rattle.std.specs.Cmp.Lexicographic.{slice_cmp}
+use Rattle.std.specs.BTreeSet.{insert_key}
 use Rattle.p4_lex.specs.declared.token.Sign.{Sign}
 use Rattle.p4_lex.specs.declared.token.Sign.TheVariants as sign
 use Rattle.p4_lex.specs.declared.token.Lexeme.{Lexeme}
@@ -26,7 +29,7 @@ use Rattle.p4_grammar.specs.declared.mark.Mark.TheVariants as mark
 use Rattle.p4_grammar.specs.declared.mark.Spelled.{Spelled}
 use Rattle.p4_grammar.specs.Tokens.{test, in_hand}
 
--- the names of the typedefs that are declared, each once, as they come
+-- the names of the typedefs that are declared, each once, in their order
 abbrev pub Env : Type 0
 Env = List (List ℕ)
 
@@ -34,9 +37,9 @@ Env = List (List ℕ)
 abbrev pub has : Env → List ℕ → Bool
 has env x = list_any (bytes_eq x) env
 
--- these names and this one, each once
+-- these names, with this one in its place unless it is there
 abbrev pub named : Env → List ℕ → Env
-named env x = if has env x then env else env ++ x ∷ []
+named env x = insert_key (slice_cmp nat_cmp) env x
 
 -- the typedefs behind a declaration
 abbrev pub known : Env → P4Declaration → Env

@@ -7,6 +7,7 @@ use crate::end::ParseEnd;
 use p4_ast::Tree;
 use p4_lex::{LexEnd, Sign, Token, Tokens};
 use p4_part::deep::deep;
+use p4_part::end::ReadEnd;
 use p4_part::operator::is_binary;
 use p4_part::token::{is_sign, is_value};
 use p4_program::program::program;
@@ -67,8 +68,8 @@ fn tree_of(alloc: Global, size: u64, tokens: &[Token]) -> Result<Tree, ParseEnd>
     }
     match program(alloc, tokens) {
         Ok(tree) => Ok(tree),
-        Err(None) => Err(ParseEnd::NoMemory),
-        Err(Some(rest)) => Err(ParseEnd::Refused(fault_of(size, tokens, rest))),
+        Err(ReadEnd::NoMemory) => Err(ParseEnd::NoMemory),
+        Err(ReadEnd::At(rest)) => Err(ParseEnd::Refused(fault_of(size, tokens, rest))),
     }
 }
 

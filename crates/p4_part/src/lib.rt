@@ -6,6 +6,7 @@
 
 pub mod closing;
 pub mod deep;
+pub mod end;
 pub mod list;
 pub mod name;
 pub mod operator;

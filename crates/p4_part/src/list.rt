@@ -2,6 +2,7 @@
 ghost use Rattle.std.specs.Prelude.{◌≡◌, ◌∷◌, []};
 ghost use Rattle.p4_part.specs.Made.{Makes};
 
+use crate::end::ReadEnd;
 use crate::value::Made;
 use sqlite_items::Items;
 use std::alloc::Global;
@@ -11,10 +12,10 @@ pub fn single<'a, T: Drop>(alloc: Global, x: T) -> Made<'a, Items<T>>
     ensures { Makes result (x ∷ []) }
 {
     let Ok(mut list) = Vec::with_capacity(alloc, 1) else {
-        return Err(None);
+        return Err(ReadEnd::NoMemory);
     };
     if list.push(x).is_err() {
-        return Err(None);
+        return Err(ReadEnd::NoMemory);
     }
     Ok(Items::from_vec(list))
 }
@@ -25,7 +26,7 @@ pub fn joined<'a, T: Drop>(alloc: Global, first: T, more: Items<T>) -> Made<'a, 
 {
     let mut parts = single(alloc, first)?;
     if parts.append(more).is_err() {
-        return Err(None);
+        return Err(ReadEnd::NoMemory);
     }
     Ok(parts)
 }
@@ -36,7 +37,7 @@ pub fn pair<'a, T: Drop>(alloc: Global, first: T, second: T) -> Made<'a, Items<T
 {
     let mut parts = single(alloc, first)?;
     if parts.push(second).is_err() {
-        return Err(None);
+        return Err(ReadEnd::NoMemory);
     }
     Ok(parts)
 }

@@ -1,20 +1,23 @@
 //! Types, paths and slices.
 ghost use Rattle.std.specs.Prelude.{◌≡◌, ◌∷◌, []};
-ghost use Rattle.p4_grammar.specs.Forms.{Gives, hand, taken_at};
+ghost use Rattle.p4_grammar.specs.Forms.{hand, taken_at};
 ghost use Rattle.p4_grammar.specs.Tokens.{name, words_at};
 ghost use Rattle.p4_grammar.specs.Values.{named_type, type_place};
 ghost use Rattle.p4_lex.specs.declared.token.Sign.TheVariants as sign;
 ghost use Rattle.p4_grammar.specs.ReadingExpressions.{bit_type_at, bool_type_at, std_type_at, word_type_at, name_type_at, word_type, type_at, names_at, path_at, slice_at};
+ghost use Rattle.p4_part.specs.Made.{Finds, Gives};
 
-use crate::token::{Reading, is_next, name_of, number_of, sign_of};
+use crate::end::ReadEnd;
+use crate::token::{Finding, Reading, is_next, name_of, number_of, sign_of};
+use crate::value::boxed;
 use p4_ast::{P4Name, P4Slice, P4Type};
 use p4_lex::{Sign, Token};
-use sqlite_items::Items;
+use sqlite_items::{Boxed, Items};
 use std::alloc::Global;
 
 #[tactic(auto, unfolding(p4_grammar::specs::ReadingExpressions::bit_type_at))]
-fn bit_type_of(tokens: &[Token]) -> Reading<'_, P4Type>
-    ensures { Gives (λ x. (x.0, x.1.now)) (λ e. e.now) result (bit_type_at tokens.now) }
+fn bit_type_of(tokens: &[Token]) -> Finding<'_, P4Type>
+    ensures { Finds (λ x. (x.0, x.1.now)) (λ e. e.now) result (bit_type_at tokens.now) }
 {
     let (at, rest) = sign_of(Sign::Bit, tokens)?;
     let (_, rest) = sign_of(Sign::Less, rest)?;
@@ -24,16 +27,16 @@ fn bit_type_of(tokens: &[Token]) -> Reading<'_, P4Type>
 }
 
 #[tactic(auto, unfolding(p4_grammar::specs::ReadingExpressions::bool_type_at))]
-pub fn bool_type_of(tokens: &[Token]) -> Reading<'_, P4Type>
-    ensures { Gives (λ x. (x.0, x.1.now)) (λ e. e.now) result (bool_type_at tokens.now) }
+pub fn bool_type_of(tokens: &[Token]) -> Finding<'_, P4Type>
+    ensures { Finds (λ x. (x.0, x.1.now)) (λ e. e.now) result (bool_type_at tokens.now) }
 {
     let (at, rest) = sign_of(Sign::Bool, tokens)?;
     Ok((P4Type::Bool { at }, rest))
 }
 
 #[tactic(auto, unfolding(p4_grammar::specs::ReadingExpressions::std_type_at))]
-pub fn std_type_of(tokens: &[Token]) -> Reading<'_, P4Type>
-    ensures { Gives (λ x. (x.0, x.1.now)) (λ e. e.now) result (std_type_at tokens.now) }
+pub fn std_type_of(tokens: &[Token]) -> Finding<'_, P4Type>
+    ensures { Finds (λ x. (x.0, x.1.now)) (λ e. e.now) result (std_type_at tokens.now) }
 {
     let (at, rest) = sign_of(Sign::StdT, tokens)?;
     Ok((P4Type::StdT { at }, rest))
@@ -41,8 +44,8 @@ pub fn std_type_of(tokens: &[Token]) -> Reading<'_, P4Type>
 
 /// Reads a type that begins with a word.
 #[tactic(auto, unfolding(p4_grammar::specs::ReadingExpressions::word_type_at))]
-pub fn word_type_of(tokens: &[Token]) -> Reading<'_, P4Type>
-    ensures { Gives (λ x. (x.0, x.1.now)) (λ e. e.now) result (word_type_at tokens.now) }
+pub fn word_type_of(tokens: &[Token]) -> Finding<'_, P4Type>
+    ensures { Finds (λ x. (x.0, x.1.now)) (λ e. e.now) result (word_type_at tokens.now) }
 {
     if is_next(Sign::Bit, tokens) {
         return bit_type_of(tokens);
@@ -62,7 +65,7 @@ pub fn type_named(name: P4Name) -> P4Type
 
 #[tactic(auto, unfolding(p4_grammar::specs::ReadingExpressions::name_type_at))]
 pub fn name_type_of(tokens: &[Token]) -> Reading<'_, P4Type>
-    ensures { Gives (λ x. (x.0, x.1.now)) (λ e. e.now) result (name_type_at tokens.now) }
+    ensures { Gives (λ x. (x.0, x.1.now)) result (name_type_at tokens.now) }
 {
     let (name, rest) = name_of(tokens)?;
     Ok((type_named(name), rest))
@@ -78,12 +81,22 @@ pub fn is_type_next(tokens: &[Token]) -> bool
 /// Reads a type.
 #[tactic(auto, unfolding(p4_grammar::specs::ReadingExpressions::type_at))]
 pub fn type_of(tokens: &[Token]) -> Reading<'_, P4Type>
-    ensures { Gives (λ x. (x.0, x.1.now)) (λ e. e.now) result (type_at tokens.now) }
+    ensures { Gives (λ x. (x.0, x.1.now)) result (type_at tokens.now) }
 {
     if is_type_next(tokens) {
-        return word_type_of(tokens);
+        let (type_, rest) = word_type_of(tokens)?;
+        return Ok((type_, rest));
     }
     name_type_of(tokens)
+}
+
+/// Reads a type, into a box.
+pub fn boxed_type_of<'a>(alloc: Global, tokens: &'a [Token]) -> Reading<'a, Boxed<P4Type>>
+    ensures { Gives (λ x. (x.0, x.1.now)) result (type_at tokens.now) }
+{
+    let (type_, rest) = type_of(tokens)?;
+    let type_ = boxed(alloc, type_)?;
+    Ok((type_, rest))
 }
 
 /// The place of a type.
@@ -99,7 +112,7 @@ pub fn place_of_type(type_: &P4Type) -> u64
 }
 
 fn dot_name_of(tokens: &[Token]) -> Reading<'_, P4Name>
-    ensures { Gives (λ x. (x.0, x.1.now)) (λ e. e.now) result (words_at (sign.Dot ∷ []) (taken_at name) tokens.now) }
+    ensures { Gives (λ x. (x.0, x.1.now)) result (words_at (sign.Dot ∷ []) (taken_at name) tokens.now) }
 {
     let (_, rest) = sign_of(Sign::Dot, tokens)?;
     name_of(rest)
@@ -108,7 +121,7 @@ fn dot_name_of(tokens: &[Token]) -> Reading<'_, P4Name>
 /// Reads the names behind the first one of a path.
 #[tactic(auto, unfolding(p4_grammar::specs::ReadingExpressions::names_at))]
 pub fn names_of(alloc: Global, fuel: usize, tokens: &[Token]) -> Reading<'_, Items<P4Name>>
-    ensures { Gives (λ x. (x.0, x.1.now)) (λ e. e.now) result (names_at fuel tokens.now) }
+    ensures { Gives (λ x. (x.0, x.1.now)) result (names_at fuel tokens.now) }
 {
     let mut names = Items::new(alloc);
     let mut left = fuel;
@@ -120,17 +133,17 @@ pub fn names_of(alloc: Global, fuel: usize, tokens: &[Token]) -> Reading<'_, Ite
         }
         let (name, after) = dot_name_of(rest)?;
         if names.push(name).is_err() {
-            return Err(None);
+            return Err(ReadEnd::NoMemory);
         }
         rest = after;
     }
-    Err(Some(rest))
+    Err(ReadEnd::At(rest))
 }
 
 /// Reads a slice.
 #[tactic(auto, unfolding(p4_grammar::specs::ReadingExpressions::slice_at))]
-pub fn slice_of(tokens: &[Token]) -> Reading<'_, P4Slice>
-    ensures { Gives (λ x. (x.0, x.1.now)) (λ e. e.now) result (slice_at tokens.now) }
+pub fn slice_of(tokens: &[Token]) -> Finding<'_, P4Slice>
+    ensures { Finds (λ x. (x.0, x.1.now)) (λ e. e.now) result (slice_at tokens.now) }
 {
     let (at, rest) = sign_of(Sign::OpenSlice, tokens)?;
     let (high, rest) = number_of(rest)?;

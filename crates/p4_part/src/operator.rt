@@ -1,12 +1,12 @@
 //! Operators.
 ghost use Rattle.std.specs.Prelude.{◌≡◌};
 ghost use Rattle.p4_part.specs.Operators.{is_binary as is_binary_of};
-ghost use Rattle.p4_part.specs.Made.{of_option};
-ghost use Rattle.p4_grammar.specs.Forms.{Gives, taken_at, hand, is_given};
+ghost use Rattle.p4_part.specs.Made.{Finds, of_option};
+ghost use Rattle.p4_grammar.specs.Forms.{taken_at, hand, is_given};
 ghost use Rattle.p4_grammar.specs.Tokens.{in_hand};
 ghost use Rattle.p4_grammar.specs.Values.{op_sign as op_sign_of, this, some_op, compare_op, chain_op, sum_op, unary_op, begins_operand};
 
-use crate::token::{Reading, is_sign};
+use crate::token::{Finding, is_sign};
 use crate::value::is_bare;
 use p4_ast::{P4BinaryOp, P4UnaryOp};
 use p4_grammar::Spelled;
@@ -48,16 +48,16 @@ pub fn is_this_next(op: P4BinaryOp, tokens: &[Token]) -> bool
 }
 
 /// Reads this operator.
-pub fn this_of(op: P4BinaryOp, tokens: &[Token]) -> Reading<'_, P4BinaryOp>
-    ensures { Gives (λ x. (x.0, x.1.now)) (λ e. e.now) result (taken_at (this op) tokens.now) }
+pub fn this_of(op: P4BinaryOp, tokens: &[Token]) -> Finding<'_, P4BinaryOp>
+    ensures { Finds (λ x. (x.0, x.1.now)) (λ e. e.now) result (taken_at (this op) tokens.now) }
 {
     match tokens {
-        [] => Err(Some(tokens)),
+        [] => Err(tokens),
         [token, rest @ ..] => {
             if is_sign(op_sign(op), token) {
                 Ok((op, rest))
             } else {
-                Err(Some(tokens))
+                Err(tokens)
             }
         }
     }
@@ -88,14 +88,14 @@ fn is_op_next(ops: &[P4BinaryOp], tokens: &[Token]) -> bool
     }
 }
 
-fn op_of<'a>(ops: &[P4BinaryOp], tokens: &'a [Token]) -> Reading<'a, P4BinaryOp>
-    ensures { Gives (λ x. (x.0, x.1.now)) (λ e. e.now) result (taken_at (some_op ops.now) tokens.now) }
+fn op_of<'a>(ops: &[P4BinaryOp], tokens: &'a [Token]) -> Finding<'a, P4BinaryOp>
+    ensures { Finds (λ x. (x.0, x.1.now)) (λ e. e.now) result (taken_at (some_op ops.now) tokens.now) }
 {
     match tokens {
-        [] => Err(Some(tokens)),
+        [] => Err(tokens),
         [token, rest @ ..] => match op_in(ops, token) {
             Some(op) => Ok((op, rest)),
-            None => Err(Some(tokens)),
+            None => Err(tokens),
         },
     }
 }
@@ -128,8 +128,8 @@ pub fn is_compare_next(tokens: &[Token]) -> bool
 }
 
 /// Reads an operator of comparisons.
-pub fn compare_op_of(tokens: &[Token]) -> Reading<'_, P4BinaryOp>
-    ensures { Gives (λ x. (x.0, x.1.now)) (λ e. e.now) result (taken_at compare_op tokens.now) }
+pub fn compare_op_of(tokens: &[Token]) -> Finding<'_, P4BinaryOp>
+    ensures { Finds (λ x. (x.0, x.1.now)) (λ e. e.now) result (taken_at compare_op tokens.now) }
 {
     op_of(&COMPARES, tokens)
 }
@@ -142,8 +142,8 @@ pub fn is_chain_next(tokens: &[Token]) -> bool
 }
 
 /// Reads an operator of chains.
-pub fn chain_op_of(tokens: &[Token]) -> Reading<'_, P4BinaryOp>
-    ensures { Gives (λ x. (x.0, x.1.now)) (λ e. e.now) result (taken_at chain_op tokens.now) }
+pub fn chain_op_of(tokens: &[Token]) -> Finding<'_, P4BinaryOp>
+    ensures { Finds (λ x. (x.0, x.1.now)) (λ e. e.now) result (taken_at chain_op tokens.now) }
 {
     op_of(&CHAINS, tokens)
 }
@@ -160,8 +160,8 @@ pub fn is_sum_next(x: &Spelled, tokens: &[Token]) -> bool
 }
 
 /// Reads an operator that goes on with the sum x.
-pub fn sum_op_of<'a>(x: &Spelled, tokens: &'a [Token]) -> Reading<'a, P4BinaryOp>
-    ensures { Gives (λ x. (x.0, x.1.now)) (λ e. e.now) result (taken_at (sum_op x.now) tokens.now) }
+pub fn sum_op_of<'a>(x: &Spelled, tokens: &'a [Token]) -> Finding<'a, P4BinaryOp>
+    ensures { Finds (λ x. (x.0, x.1.now)) (λ e. e.now) result (taken_at (sum_op x.now) tokens.now) }
 {
     if is_bare(&x.mark) {
         op_of(&[P4BinaryOp::Plus], tokens)
@@ -188,8 +188,8 @@ pub fn is_unary_next(tokens: &[Token]) -> bool
 }
 
 /// Reads an operator before an operand, with its place.
-pub fn unary_op_of(tokens: &[Token]) -> Reading<'_, (P4UnaryOp, u64)>
-    ensures { Gives (λ x. (x.0, x.1.now)) (λ e. e.now) result (taken_at unary_op tokens.now) }
+pub fn unary_op_of(tokens: &[Token]) -> Finding<'_, (P4UnaryOp, u64)>
+    ensures { Finds (λ x. (x.0, x.1.now)) (λ e. e.now) result (taken_at unary_op tokens.now) }
 {
     match tokens {
         [
@@ -216,7 +216,7 @@ pub fn unary_op_of(tokens: &[Token]) -> Reading<'_, (P4UnaryOp, u64)>
             },
             rest @ ..,
         ] => Ok(((P4UnaryOp::Negate, *at), rest)),
-        _ => Err(Some(tokens)),
+        _ => Err(tokens),
     }
 }
 

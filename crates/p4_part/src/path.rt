@@ -1,7 +1,6 @@
 //! Paths, slices and left sides.
 ghost use Rattle.std.specs.Prelude.{◌≡◌, ◌-◌, Some, None, if◌then◌else◌, length, take};
-ghost use Rattle.p4_grammar.specs.Forms.{Gives};
-ghost use Rattle.p4_part.specs.Made.{called_in};
+ghost use Rattle.p4_part.specs.Made.{Finds, Gives, called_in};
 ghost use Rattle.p4_grammar.specs.Tokens.{called};
 ghost use Rattle.p4_grammar.specs.Trees.{alone, left_of as left_is};
 ghost use Rattle.p4_grammar.specs.ReadingExpressions.{path_at};
@@ -9,7 +8,7 @@ ghost use Rattle.p4_grammar.specs.ReadingStatements.{slice_or_none_at};
 
 use crate::list::joined;
 use crate::name::{names_of, slice_of};
-use crate::token::{Reading, is_next, name_of};
+use crate::token::{Finding, Reading, is_next, name_of};
 use crate::value::{path_of, place_of};
 use p4_ast::{P4Left, P4Name, P4Slice};
 use p4_lex::{Sign, Token};
@@ -40,7 +39,7 @@ pub fn front_of(names: Items<P4Name>) -> Items<P4Name>
 /// Reads a path.
 #[tactic(auto, unfolding(p4_grammar::specs::ReadingExpressions::path_at))]
 pub fn dotted_of(alloc: Global, fuel: usize, tokens: &[Token]) -> Reading<'_, Items<P4Name>>
-    ensures { Gives (λ x. (x.0, x.1.now)) (λ e. e.now) result (path_at fuel tokens.now) }
+    ensures { Gives (λ x. (x.0, x.1.now)) result (path_at fuel tokens.now) }
 {
     let (first, rest) = name_of(tokens)?;
     let (more, rest) = names_of(alloc, fuel, rest)?;
@@ -50,8 +49,8 @@ pub fn dotted_of(alloc: Global, fuel: usize, tokens: &[Token]) -> Reading<'_, It
 
 /// Reads a slice, or none.
 #[tactic(auto, unfolding(p4_grammar::specs::ReadingStatements::slice_or_none_at))]
-pub fn slice_or_none_of(tokens: &[Token]) -> Reading<'_, Option<P4Slice>>
-    ensures { Gives (λ x. (x.0, x.1.now)) (λ e. e.now) result (slice_or_none_at tokens.now) }
+pub fn slice_or_none_of(tokens: &[Token]) -> Finding<'_, Option<P4Slice>>
+    ensures { Finds (λ x. (x.0, x.1.now)) (λ e. e.now) result (slice_or_none_at tokens.now) }
 {
     if is_next(Sign::OpenSlice, tokens) {
         let (slice, rest) = slice_of(tokens)?;

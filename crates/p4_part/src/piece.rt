@@ -2,11 +2,11 @@
 //!
 //! Functions within which no statement is read are kept out of line, so that nested statements take less of the stack.
 ghost use Rattle.std.specs.Prelude.{◌≡◌, ◌++◌, ◌∷◌, [], Ok, Some, None, true};
-ghost use Rattle.p4_grammar.specs.Forms.{Gives};
 ghost use Rattle.p4_grammar.specs.declared.mark.Piece.TheVariants as piece;
 ghost use Rattle.p4_grammar.specs.Trees.{kept as kept_of, block_of as block_is, branch as branch_is, is_open as is_open_of, opened as opened_of, if_stmt as if_stmt_of};
-ghost use Rattle.p4_part.specs.Made.{Makes};
+ghost use Rattle.p4_part.specs.Made.{Gives, Makes};
 
+use crate::end::ReadEnd;
 use crate::list::single;
 use crate::value::{Made, boxed};
 use p4_ast::{P4Block, P4Cond, P4If, P4Stmt};
@@ -25,7 +25,7 @@ pub fn stmt_piece<'a>(alloc: Global, at: u64, stmt: P4Stmt) -> Made<'a, Piece>
 /// Appends what a block keeps of a piece.
 #[inline(never)]
 pub fn keep<'a>(alloc: Global, stmts: &mut Items<P4Stmt>, piece: Piece) -> Made<'a, ()>
-    ensures { Gives (λ _. stmts.new) (λ e. e.now) result (Ok (stmts.old ++ kept_of piece)) }
+    ensures { Gives (λ _. stmts.new) result (Ok (stmts.old ++ kept_of piece)) }
 {
     let stmt = match piece {
         Piece::Empty { at: _ } => return Ok(()),
@@ -39,7 +39,7 @@ pub fn keep<'a>(alloc: Global, stmts: &mut Items<P4Stmt>, piece: Piece) -> Made<
     }
     match stmts.push(stmt) {
         Ok(()) => Ok(()),
-        Err(_) => Err(None),
+        Err(_) => Err(ReadEnd::NoMemory),
     }
 }
 

@@ -1,14 +1,19 @@
 //! The token in hand. A reader has what it read and the tokens behind it; an error has the tokens from the one at which it stops, or
-//! none where memory ran out.
+//! says that memory ran out.
 ghost use Rattle.std.specs.Prelude.{◌≡◌, ◌||◌};
-ghost use Rattle.p4_grammar.specs.Forms.{Gives, taken_at, hand, is_given};
+ghost use Rattle.p4_grammar.specs.Forms.{taken_at, hand, is_given};
 ghost use Rattle.p4_grammar.specs.Tokens.{code as code_of, is, but, name, number, the_name, in_hand, is_name};
+ghost use Rattle.p4_part.specs.Made.{Finds, Gives};
 
+use crate::end::ReadEnd;
 use p4_ast::{P4Name, P4Number};
 use p4_lex::{Lexeme, Sign, Token};
 
 /// What is read, and the tokens behind it.
-pub type Reading<'a, T> = Result<(T, &'a [Token]), Option<&'a [Token]>>;
+pub type Reading<'a, T> = Result<(T, &'a [Token]), ReadEnd<'a>>;
+
+/// The same of a reader that takes no memory.
+pub type Finding<'a, T> = Result<(T, &'a [Token]), &'a [Token]>;
 
 fn code(sign: Sign) -> u8
     ensures { result ≡ code_of sign }
@@ -51,8 +56,8 @@ pub fn is_name_next(tokens: &[Token]) -> bool
 }
 
 /// Reads this sign, and gives its place.
-pub fn sign_of(sign: Sign, tokens: &[Token]) -> Reading<'_, u64>
-    ensures { Gives (λ x. (x.0, x.1.now)) (λ e. e.now) result (taken_at (is sign) tokens.now) }
+pub fn sign_of(sign: Sign, tokens: &[Token]) -> Finding<'_, u64>
+    ensures { Finds (λ x. (x.0, x.1.now)) (λ e. e.now) result (taken_at (is sign) tokens.now) }
 {
     match tokens {
         [
@@ -66,16 +71,16 @@ pub fn sign_of(sign: Sign, tokens: &[Token]) -> Reading<'_, u64>
             if code(sign) == code(*other) {
                 Ok((*at, rest))
             } else {
-                Err(Some(tokens))
+                Err(tokens)
             }
         }
-        _ => Err(Some(tokens)),
+        _ => Err(tokens),
     }
 }
 
 /// Reads a name.
 pub fn name_of(tokens: &[Token]) -> Reading<'_, P4Name>
-    ensures { Gives (λ x. (x.0, x.1.now)) (λ e. e.now) result (taken_at name tokens.now) }
+    ensures { Gives (λ x. (x.0, x.1.now)) result (taken_at name tokens.now) }
 {
     match tokens {
         [
@@ -87,15 +92,15 @@ pub fn name_of(tokens: &[Token]) -> Reading<'_, P4Name>
             rest @ ..,
         ] => match text.copy() {
             Ok(text) => Ok((P4Name { at: *at, text }, rest)),
-            Err(_) => Err(None),
+            Err(_) => Err(ReadEnd::NoMemory),
         },
-        _ => Err(Some(tokens)),
+        _ => Err(ReadEnd::At(tokens)),
     }
 }
 
 /// Reads a number.
-pub fn number_of(tokens: &[Token]) -> Reading<'_, P4Number>
-    ensures { Gives (λ x. (x.0, x.1.now)) (λ e. e.now) result (taken_at number tokens.now) }
+pub fn number_of(tokens: &[Token]) -> Finding<'_, P4Number>
+    ensures { Finds (λ x. (x.0, x.1.now)) (λ e. e.now) result (taken_at number tokens.now) }
 {
     match tokens {
         [
@@ -113,7 +118,7 @@ pub fn number_of(tokens: &[Token]) -> Reading<'_, P4Number>
             };
             Ok((number, rest))
         }
-        _ => Err(Some(tokens)),
+        _ => Err(tokens),
     }
 }
 
@@ -135,8 +140,8 @@ pub fn is_called_next(text: &[u8], tokens: &[Token]) -> bool
 }
 
 /// Reads this name, and gives its place.
-pub fn called_of<'a>(text: &[u8], tokens: &'a [Token]) -> Reading<'a, u64>
-    ensures { Gives (λ x. (x.0, x.1.now)) (λ e. e.now) result (taken_at (the_name text.now) tokens.now) }
+pub fn called_of<'a>(text: &[u8], tokens: &'a [Token]) -> Finding<'a, u64>
+    ensures { Finds (λ x. (x.0, x.1.now)) (λ e. e.now) result (taken_at (the_name text.now) tokens.now) }
 {
     match tokens {
         [
@@ -150,10 +155,10 @@ pub fn called_of<'a>(text: &[u8], tokens: &'a [Token]) -> Reading<'a, u64>
             if other.as_slice() == text {
                 Ok((*at, rest))
             } else {
-                Err(Some(tokens))
+                Err(tokens)
             }
         }
-        _ => Err(Some(tokens)),
+        _ => Err(tokens),
     }
 }
 

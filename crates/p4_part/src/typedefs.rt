@@ -1,16 +1,16 @@
-//! The names of the typedefs so far.
+//! The names of the typedefs so far, in order, so that no choice of names makes them slow to find.
 ghost use Rattle.std.specs.Prelude.{◌≡◌, [], OnOk, OnErr};
 ghost use Rattle.p4_grammar.specs.Values.{has, named};
 
-use indexmap::IndexSet;
 use rp_base::NoMemory;
 use std::alloc::Global;
+use std::collections::BTreeSet;
 use std::marker::Model;
 
 /// The names of the typedefs declared so far, each once.
 #[derive(Drop)]
 pub struct Typedefs {
-    names: IndexSet<Vec<u8>>,
+    names: BTreeSet<Vec<u8>>,
 }
 
 impl Model for Typedefs {
@@ -27,7 +27,7 @@ impl Typedefs {
         ensures { result ≡ [] }
     {
         Typedefs {
-            names: IndexSet::new(alloc),
+            names: BTreeSet::new(alloc),
         }
     }
 

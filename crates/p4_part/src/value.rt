@@ -1,19 +1,19 @@
 //! Expressions as they were spelled.
 ghost use Rattle.std.specs.Prelude.{◌≡◌};
 ghost use Rattle.p4_grammar.specs.declared.mark.Mark.TheVariants as mark;
-ghost use Rattle.p4_part.specs.Made.{Makes, called_in};
+ghost use Rattle.p4_part.specs.Made.{Makes, called_in, choice_with, compound_with};
 ghost use Rattle.p4_grammar.specs.ReadingStatements.{is_some};
-ghost use Rattle.p4_grammar.specs.Values.{later as later_of, of_cast, of_path, is_bare as is_bare_of, cast_by, first_at, path_of as path_is, path_value as path_value_of, valid_value as valid_value_of, slice_value as slice_value_of, cast_value as cast_value_of, unary_value as unary_value_of, binary as binary_of, choice_value as choice_value_of};
+ghost use Rattle.p4_grammar.specs.Values.{later as later_of, of_cast, of_path, is_bare as is_bare_of, cast_by, first_at, path_of as path_is, path_value as path_value_of, valid_value as valid_value_of, slice_value as slice_value_of, cast_value as cast_value_of, unary_value as unary_value_of, binary as binary_of};
 
+use crate::end::ReadEnd;
 use crate::typedefs::Typedefs;
 use p4_ast::{P4BinaryOp, P4Expr, P4Name, P4Path, P4Slice, P4Type, P4UnaryOp};
 use p4_grammar::{Mark, Spelled};
-use p4_lex::Token;
 use sqlite_items::{Boxed, Items};
 use std::alloc::Global;
 
 /// What is made; an error has no tokens, since only memory may run out.
-pub type Made<'a, T> = Result<T, Option<&'a [Token]>>;
+pub type Made<'a, T> = Result<T, ReadEnd<'a>>;
 
 /// A value in a box.
 pub fn boxed<'a, T: Drop>(alloc: Global, x: T) -> Made<'a, Boxed<T>>
@@ -21,7 +21,7 @@ pub fn boxed<'a, T: Drop>(alloc: Global, x: T) -> Made<'a, Boxed<T>>
 {
     match Boxed::new(alloc, x) {
         Ok(inner) => Ok(inner),
-        Err(_) => Err(None),
+        Err(_) => Err(ReadEnd::NoMemory),
     }
 }
 
@@ -30,7 +30,7 @@ fn copy_name<'a>(name: &P4Name) -> Made<'a, P4Name>
 {
     match name.text.copy() {
         Ok(text) => Ok(P4Name { at: name.at, text }),
-        Err(_) => Err(None),
+        Err(_) => Err(ReadEnd::NoMemory),
     }
 }
 
@@ -152,6 +152,18 @@ pub fn path_of(names: Items<P4Name>) -> P4Path
     }
 }
 
+/// An expression without the mark of its spelling, which is let go at once.
+pub fn without_mark(x: Spelled) -> Boxed<P4Expr>
+    ensures { result ≡ x.expr }
+{
+    let Spelled {
+        at: _,
+        expr,
+        mark: _,
+    } = x;
+    expr
+}
+
 /// An expression whose spelling doesn't matter for what may follow it.
 pub fn plain<'a>(alloc: Global, at: u64, expr: P4Expr) -> Made<'a, Spelled>
     ensures { Makes result (record { at = at; expr = expr; mark = mark.Plain }) }
@@ -224,15 +236,16 @@ pub fn unary_value<'a>(alloc: Global, op: P4UnaryOp, at: u64, x: Spelled) -> Mad
     Ok(Spelled { at, expr, mark })
 }
 
-/// An operation on two operands.
-pub fn binary<'a>(alloc: Global, op: P4BinaryOp, x: Spelled, y: Spelled) -> Made<'a, Spelled>
-    ensures { Makes result (binary_of op x y) }
+/// An operation on two operands, of which the first stands at this place.
+pub fn compound<'a>(
+    alloc: Global,
+    op: P4BinaryOp,
+    at: u64,
+    left: Boxed<P4Expr>,
+    y: Spelled,
+) -> Made<'a, Spelled>
+    ensures { Makes result (compound_with op at left y) }
 {
-    let Spelled {
-        at,
-        expr: left,
-        mark: _,
-    } = x;
     let Spelled {
         at: _,
         expr: right,
@@ -249,20 +262,24 @@ pub fn binary<'a>(alloc: Global, op: P4BinaryOp, x: Spelled, y: Spelled) -> Made
     Ok(Spelled { at, expr, mark })
 }
 
-/// A choice.
-pub fn choice_value<'a>(alloc: Global, x: Spelled, y: Spelled, z: Spelled) -> Made<'a, Spelled>
-    ensures { Makes result (choice_value_of x y z) }
+/// An operation on two operands.
+pub fn binary<'a>(alloc: Global, op: P4BinaryOp, x: Spelled, y: Spelled) -> Made<'a, Spelled>
+    ensures { Makes result (binary_of op x y) }
 {
-    let Spelled {
-        at,
-        expr: test,
-        mark: _,
-    } = x;
-    let Spelled {
-        at: _,
-        expr: yes,
-        mark: _,
-    } = y;
+    let at = x.at;
+    compound(alloc, op, at, without_mark(x), y)
+}
+
+/// A choice at this place.
+pub fn choice<'a>(
+    alloc: Global,
+    at: u64,
+    test: Boxed<P4Expr>,
+    yes: Boxed<P4Expr>,
+    z: Spelled,
+) -> Made<'a, Spelled>
+    ensures { Makes result (choice_with at test yes z) }
+{
     let Spelled {
         at: _,
         expr: no,

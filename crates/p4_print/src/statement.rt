@@ -14,10 +14,11 @@ use p4_ast::{
     P4Read, P4Stmt, P4Type, P4Valid, P4Validity, P4Var, P4Write,
 };
 use rp_base::{Bytes, NoMemory};
+use sqlite_items::Boxed;
 
 // A first value.
 #[tactic(auto, using(crate::proofs::Steps::texts))]
-fn write_value(value: &Option<P4Expr>, out: &mut Bytes) -> Result<(), NoMemory>
+fn write_value(value: &Option<Boxed<P4Expr>>, out: &mut Bytes) -> Result<(), NoMemory>
     ensures { OnOk result (out.new ≡ out.old ++ text (maybe (behind_sign sign.Assign) value.now)) }
 {
     match value {
@@ -59,7 +60,7 @@ impl Written for P4Assign {
 
 // A cast of what is read.
 #[tactic(auto, using(crate::proofs::Steps::texts))]
-fn write_cast(type_: &Option<P4Type>, out: &mut Bytes) -> Result<(), NoMemory>
+fn write_cast(type_: &Option<Boxed<P4Type>>, out: &mut Bytes) -> Result<(), NoMemory>
     ensures { OnOk result (out.new ≡ out.old ++ text (maybe cast_tokens type_.now)) }
 {
     match type_ {
@@ -91,7 +92,7 @@ impl Written for P4Read {
 
 // A second argument.
 #[tactic(auto, using(crate::proofs::Steps::texts))]
-fn write_second(second: &Option<P4Expr>, out: &mut Bytes) -> Result<(), NoMemory>
+fn write_second(second: &Option<Boxed<P4Expr>>, out: &mut Bytes) -> Result<(), NoMemory>
     ensures { OnOk result (out.new ≡ out.old ++ text (maybe (behind_sign sign.Comma) second.now)) }
 {
     match second {

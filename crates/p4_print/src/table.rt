@@ -14,10 +14,11 @@ use p4_ast::{
     P4Name, P4One, P4Size, P4Table,
 };
 use rp_base::{Bytes, NoMemory};
+use sqlite_items::Boxed;
 
 // An expression, with its mask where it has one.
 #[tactic(auto, using(crate::proofs::Steps::texts), unfolding(crate::specs::Tables::masked_tokens))]
-fn write_masked(e: &P4Expr, mask: &Option<P4Expr>, out: &mut Bytes) -> Result<(), NoMemory>
+fn write_masked(e: &P4Expr, mask: &Option<Boxed<P4Expr>>, out: &mut Bytes) -> Result<(), NoMemory>
     ensures { OnOk result (out.new ≡ out.old ++ text (masked_tokens e.now mask.now)) }
 {
     match mask {
@@ -25,7 +26,7 @@ fn write_masked(e: &P4Expr, mask: &Option<P4Expr>, out: &mut Bytes) -> Result<()
         Some(mask) => {
             write_operand(e, out)?;
             out.append(b"&&& ")?;
-            write_operand(mask, out)
+            write_operand(mask.get(), out)
         }
     }
 }
@@ -39,7 +40,7 @@ impl Written for P4One {
     fn write(&self, out: &mut Bytes) -> Result<(), NoMemory> {
         match self {
             P4One::Any { at: _ } => out.append(b"_ "),
-            P4One::Expr { at: _, expr, mask } => write_masked(expr, mask, out),
+            P4One::Expr { at: _, expr, mask } => write_masked(expr.get(), mask, out),
         }
     }
 }

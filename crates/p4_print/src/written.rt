@@ -5,6 +5,7 @@ ghost use Rattle.p4_print.specs.Shared.{all, separated, maybe, the};
 ghost use Rattle.p4_lex.specs.declared.token.Sign.TheVariants as sign;
 
 use rp_base::{Bytes, NoMemory};
+use sqlite_items::Boxed;
 
 /// A part of a program that can be written.
 pub trait Written {
@@ -21,6 +22,14 @@ pub trait Written {
     /// `NoMemory`.
     fn write(&self, out: &mut Bytes) -> Result<(), NoMemory>
         ensures { OnOk result (out.new ≡ out.old ++ text (tokens self.now)) };
+}
+
+impl<T: Written> Written for Boxed<T> {
+    ghost tokens = { T.tokens };
+
+    fn write(&self, out: &mut Bytes) -> Result<(), NoMemory> {
+        self.get().write(out)
+    }
 }
 
 /// Appends each of these.

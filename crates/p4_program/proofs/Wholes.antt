@@ -1,12 +1,14 @@
 -- Where the tokens of a program are refused behind its controls, or behind its end.
-use Rattle.std.proofs.Common.{◌≡◌, ◌≤◌, ◌+◌, ℕ, suc, List, [], ◌∷◌, length, Ok, Err, Option, Some, None, Bor, refl, subst, arith}
+use Rattle.std.proofs.Common.{◌≡◌, ◌≤◌, ◌+◌, ℕ, suc, List, [], ◌∷◌, length, Ok, Err, Bor, refl, subst, arith}
 use Rattle.p4_lex.specs.declared.token.Token.{Token}
 use Rattle.p4_ast.specs.declared.parser.P4Parser.{P4Parser}
 use Rattle.p4_ast.specs.declared.control.P4Ingress.{P4Ingress}
 use Rattle.p4_ast.specs.declared.program.P4Program.{P4Program}
 use Rattle.p4_ast.specs.declared.program.P4Deparser.{P4Deparser}
 use Rattle.p4_ast.specs.declared.program.P4Package.{P4Package}
-use Rattle.p4_grammar.specs.Forms.{Gives}
+use Rattle.p4_part.specs.Made.{Gives}
+use Rattle.p4_part.specs.declared.end.ReadEnd.{ReadEnd}
+use Rattle.p4_part.specs.declared.end.ReadEnd.TheVariants as ends
 use Rattle.p4_grammar.specs.Reading.{Declared, declarations_at, parser_at, ingress_at, deparser_at, package_at, program_at, programs_of}
 
 -- what was read up to the controls, in the environment of the typedefs before
@@ -20,15 +22,15 @@ pub record Fronted (n : ℕ) (w rest : List Token) : Type 0 where
   pub parser_is : parser_at n declared.0 behind ≡ Ok (parser, later)
   pub ingress_is : ingress_at n declared.0 later ≡ Ok (ingress, rest)
 
-pub deparser_fails : (n : ℕ) (w rest : List Token) (e : Option (Bor (List Token))) → Fronted n w rest → Gives {X = P4Deparser × Bor (List Token)} (λ x. (x.0, x.1.now)) (λ e. e.now) (Err e) (deparser_at n rest) → Gives {X = P4Program × Bor (List Token)} (λ x. (x.0, x.1.now)) (λ e. e.now) (Err e) (program_at n w)
+pub deparser_fails : (n : ℕ) (w rest : List Token) (e : ReadEnd) → Fronted n w rest → Gives {X = P4Deparser × Bor (List Token)} (λ x. (x.0, x.1.now)) (Err e) (deparser_at n rest) → Gives {X = P4Program × Bor (List Token)} (λ x. (x.0, x.1.now)) (Err e) (program_at n w)
 unfolding program_at
-deparser_fails n w rest None h fault = tt
-deparser_fails n w rest (Some r) h fault = rw (h.declarations_are, h.parser_is, h.ingress_is, fault) refl
+deparser_fails n w rest ends.NoMemory h fault = tt
+deparser_fails n w rest (ends.At r) h fault = rw (h.declarations_are, h.parser_is, h.ingress_is, fault) refl
 
-pub package_fails : (n : ℕ) (w rest last : List Token) (deparser : P4Deparser) (e : Option (Bor (List Token))) → Fronted n w rest → deparser_at n rest ≡ Ok (deparser, last) → Gives {X = P4Package × Bor (List Token)} (λ x. (x.0, x.1.now)) (λ e. e.now) (Err e) (package_at last) → Gives {X = P4Program × Bor (List Token)} (λ x. (x.0, x.1.now)) (λ e. e.now) (Err e) (program_at n w)
+pub package_fails : (n : ℕ) (w rest last : List Token) (deparser : P4Deparser) (e : ReadEnd) → Fronted n w rest → deparser_at n rest ≡ Ok (deparser, last) → Gives {X = P4Package × Bor (List Token)} (λ x. (x.0, x.1.now)) (Err e) (package_at last) → Gives {X = P4Program × Bor (List Token)} (λ x. (x.0, x.1.now)) (Err e) (program_at n w)
 unfolding program_at
-package_fails n w rest last deparser None h d fault = tt
-package_fails n w rest last deparser (Some r) h d fault = rw (h.declarations_are, h.parser_is, h.ingress_is, d, fault) refl
+package_fails n w rest last deparser ends.NoMemory h d fault = tt
+package_fails n w rest last deparser (ends.At r) h d fault = rw (h.declarations_are, h.parser_is, h.ingress_is, d, fault) refl
 
 left : (w rest : List Token) (t : P4Program) → program_at (suc (length w)) w ≡ Ok (t, rest) → 1 ≤ length rest → programs_of w ≡ Err rest
 unfolding programs_of

@@ -1,10 +1,11 @@
 //! The package and the program.
 ghost use Rattle.std.specs.Prelude.{◌≡◌, Ok};
-ghost use Rattle.p4_grammar.specs.Forms.{Gives};
 ghost use Rattle.p4_grammar.specs.Values.{known};
 ghost use Rattle.p4_grammar.specs.Trees.{program_place as program_place_of, declaration_place as declaration_place_of};
 ghost use Rattle.p4_grammar.specs.Reading.{declarations_at, instance_at, package_at, program_at, programs_of};
+ghost use Rattle.p4_part.specs.Made.{Gives};
 
+use p4_part::end::ReadEnd;
 use crate::control::ingress_of;
 use p4_ast::{P4Declaration, P4Name, P4Package, P4Parser, P4Program};
 use p4_lex::{Sign, Token};
@@ -19,13 +20,13 @@ use std::alloc::Global;
 
 // Adds the typedef that a declaration is.
 fn declare<'a>(alloc: Global, env: &mut Typedefs, declaration: &P4Declaration) -> Made<'a, ()>
-    ensures { Gives (λ _. env.new) (λ e. e.now) result (Ok (known env.old declaration.now)) }
+    ensures { Gives (λ _. env.new) result (Ok (known env.old declaration.now)) }
 {
     match declaration {
         P4Declaration::Typedef(typedef) => {
             match env.add(alloc, typedef.name.text.as_slice()) {
                 Ok(()) => Ok(()),
-                Err(_) => Err(None),
+                Err(_) => Err(ReadEnd::NoMemory),
             }
         }
         P4Declaration::Header(_) => Ok(()),
@@ -41,7 +42,7 @@ fn declarations_of<'a>(
     fuel: usize,
     tokens: &'a [Token],
 ) -> Reading<'a, (Typedefs, Items<P4Declaration>)>
-    ensures { Gives (λ x. ((x.0.0, x.0.1), x.1.now)) (λ e. e.now) result (declarations_at fuel tokens.now) }
+    ensures { Gives (λ x. ((x.0.0, x.0.1), x.1.now)) result (declarations_at fuel tokens.now) }
 {
     let mut env = Typedefs::new(alloc);
     let mut declarations = Items::new(alloc);
@@ -55,17 +56,17 @@ fn declarations_of<'a>(
         let (declaration, after) = declaration_of(alloc, fuel, &env, rest)?;
         declare(alloc, &mut env, &declaration)?;
         if declarations.push(declaration).is_err() {
-            return Err(None);
+            return Err(ReadEnd::NoMemory);
         }
         rest = after;
     }
-    Err(Some(rest))
+    Err(ReadEnd::At(rest))
 }
 
 // A name with empty parentheses.
 #[tactic(auto, unfolding(p4_grammar::specs::Reading::instance_at))]
 fn instance_of<'a>(tokens: &'a [Token]) -> Reading<'a, P4Name>
-    ensures { Gives (λ x. (x.0, x.1.now)) (λ e. e.now) result (instance_at tokens.now) }
+    ensures { Gives (λ x. (x.0, x.1.now)) result (instance_at tokens.now) }
 {
     let (name, rest) = name_of(tokens)?;
     let (_, rest) = sign_of(Sign::Open, rest)?;
@@ -75,7 +76,7 @@ fn instance_of<'a>(tokens: &'a [Token]) -> Reading<'a, P4Name>
 
 #[tactic(auto, unfolding(p4_grammar::specs::Reading::package_at))]
 fn package_of<'a>(tokens: &'a [Token]) -> Reading<'a, P4Package>
-    ensures { Gives (λ x. (x.0, x.1.now)) (λ e. e.now) result (package_at tokens.now) }
+    ensures { Gives (λ x. (x.0, x.1.now)) result (package_at tokens.now) }
 {
     let (at, rest) = sign_of(Sign::RpSwitch, tokens)?;
     let (_, rest) = sign_of(Sign::Open, rest)?;
@@ -118,20 +119,20 @@ fn program_place(declarations: &[P4Declaration], parser: &P4Parser) -> u64
 
 #[tactic(auto, unfolding(p4_grammar::specs::Reading::program_at))]
 fn program_of<'a>(alloc: Global, fuel: usize, tokens: &'a [Token]) -> Reading<'a, P4Program>
-    ensures { Gives (λ x. (x.0, x.1.now)) (λ e. e.now) result (program_at fuel tokens.now) }
+    ensures { Gives (λ x. (x.0, x.1.now)) result (program_at fuel tokens.now) }
 {
     let ((env, declarations), rest) = declarations_of(alloc, fuel, tokens)?;
     let (parser, rest) = parser_of(alloc, fuel, &env, rest)?;
     let (ingress, rest) = ingress_of(alloc, fuel, &env, rest)?;
     let (deparser, rest) = deparser_of(alloc, fuel, &env, rest)?;
     let (package, rest) = package_of(rest)?;
-    let at = program_place(declarations.as_slice(), &parser);
+    let at = program_place(declarations.as_slice(), parser.get());
     let program = P4Program {
         at,
         declarations,
-        parser,
-        ingress,
-        deparser,
+        parser: parser.into_inner(),
+        ingress: ingress.into_inner(),
+        deparser: deparser.into_inner(),
         package,
     };
     Ok((program, rest))
@@ -139,12 +140,12 @@ fn program_of<'a>(alloc: Global, fuel: usize, tokens: &'a [Token]) -> Reading<'a
 
 /// The program that the tokens spell, or the tokens from the first one on at which none begins so.
 #[tactic(auto, unfolding(p4_grammar::specs::Reading::programs_of))]
-pub fn program(alloc: Global, tokens: &[Token]) -> Made<'_, P4Program>
-    ensures { Gives (λ x. x) (λ e. e.now) result (programs_of tokens.now) }
+pub fn program(alloc: Global, tokens: &[Token]) -> Result<P4Program, ReadEnd<'_>>
+    ensures { Gives (λ x. x) result (programs_of tokens.now) }
 {
     let (program, rest) = program_of(alloc, tokens.len() + 1, tokens)?;
     if !rest.is_empty() {
-        return Err(Some(rest));
+        return Err(ReadEnd::At(rest));
     }
     Ok(program)
 }

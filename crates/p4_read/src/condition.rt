@@ -2,9 +2,8 @@
 //!
 //! Functions within which no statement is read are kept out of line, so that nested statements take less of the stack.
 ghost use Rattle.std.specs.Prelude.{◌≡◌};
-ghost use Rattle.p4_grammar.specs.Forms.{Gives};
 ghost use Rattle.p4_grammar.specs.ReadingStatements.{outcome_at, applied_at, negated_value as negated_value_of, cond_rest_at, place_or as place_or_of, cond_named_at, cond_at};
-ghost use Rattle.p4_part.specs.Made.{Makes};
+ghost use Rattle.p4_part.specs.Made.{Finds, Gives, Makes};
 ghost use Rattle.p4_read.specs.Conditions.{cond_path_at, negated_at};
 
 use crate::expression::{behind_of, expr_of, named_of, unary_of};
@@ -13,15 +12,15 @@ use p4_grammar::Spelled;
 use p4_lex::{Sign, Token};
 use p4_part::list::joined;
 use p4_part::name::names_of;
-use p4_part::token::{Reading, called_of, is_called_next, is_name_next, is_next, name_of, sign_of};
+use p4_part::token::{Finding, Reading, called_of, is_called_next, is_name_next, is_next, name_of, sign_of};
 use p4_part::typedefs::Typedefs;
-use p4_part::value::{Made, unary_value};
+use p4_part::value::{Made, unary_value, without_mark};
 use sqlite_items::Items;
 use std::alloc::Global;
 
 #[tactic(auto, unfolding(p4_grammar::specs::ReadingStatements::outcome_at))]
-fn outcome_of<'a>(tokens: &'a [Token]) -> Reading<'a, P4Outcome>
-    ensures { Gives (λ x. (x.0, x.1.now)) (λ e. e.now) result (outcome_at tokens.now) }
+fn outcome_of<'a>(tokens: &'a [Token]) -> Finding<'a, P4Outcome>
+    ensures { Finds (λ x. (x.0, x.1.now)) (λ e. e.now) result (outcome_at tokens.now) }
 {
     if is_called_next(b"hit", tokens) {
         let (_, rest) = called_of(b"hit", tokens)?;
@@ -34,7 +33,7 @@ fn outcome_of<'a>(tokens: &'a [Token]) -> Reading<'a, P4Outcome>
 // Behind the name of a table and a dot.
 #[tactic(auto, unfolding(p4_grammar::specs::ReadingStatements::applied_at))]
 fn applied_of<'a>(at: u64, negated: bool, name: P4Name, tokens: &'a [Token]) -> Reading<'a, P4Cond>
-    ensures { Gives (λ x. (x.0, x.1.now)) (λ e. e.now) result (applied_at at negated name tokens.now) }
+    ensures { Gives (λ x. (x.0, x.1.now)) result (applied_at at negated name tokens.now) }
 {
     let (_, rest) = sign_of(Sign::Apply, tokens)?;
     let (_, rest) = sign_of(Sign::Open, rest)?;
@@ -78,11 +77,11 @@ fn cond_rest_of<'a>(
     x: Spelled,
     tokens: &'a [Token],
 ) -> Reading<'a, P4Cond>
-    ensures { Gives (λ x. (x.0, x.1.now)) (λ e. e.now) result (cond_rest_at fuel env.now not x tokens.now) }
+    ensures { Gives (λ x. (x.0, x.1.now)) result (cond_rest_at fuel env.now not x tokens.now) }
 {
     let x = negated_value(alloc, not, x)?;
     let (value, rest) = behind_of(alloc, fuel, env, x, tokens)?;
-    Ok((P4Cond::Expr(value.expr.into_inner()), rest))
+    Ok((P4Cond::Expr(without_mark(value)), rest))
 }
 
 // Behind a name and a dot, where no table is applied.
@@ -94,7 +93,7 @@ fn cond_path_of<'a>(
     first: P4Name,
     tokens: &'a [Token],
 ) -> Reading<'a, P4Cond>
-    ensures { Gives (λ x. (x.0, x.1.now)) (λ e. e.now) result (cond_path_at fuel env.now not first tokens.now) }
+    ensures { Gives (λ x. (x.0, x.1.now)) result (cond_path_at fuel env.now not first tokens.now) }
 {
     let (second, rest) = name_of(tokens)?;
     let (more, rest) = names_of(alloc, fuel, rest)?;
@@ -113,7 +112,7 @@ fn cond_named_of<'a>(
     first: P4Name,
     tokens: &'a [Token],
 ) -> Reading<'a, P4Cond>
-    ensures { Gives (λ x. (x.0, x.1.now)) (λ e. e.now) result (cond_named_at fuel env.now not first tokens.now) }
+    ensures { Gives (λ x. (x.0, x.1.now)) result (cond_named_at fuel env.now not first tokens.now) }
 {
     if is_next(Sign::Dot, tokens) {
         let (_, rest) = sign_of(Sign::Dot, tokens)?;
@@ -133,7 +132,7 @@ fn negated_of<'a>(
     env: &Typedefs,
     tokens: &'a [Token],
 ) -> Reading<'a, P4Cond>
-    ensures { Gives (λ x. (x.0, x.1.now)) (λ e. e.now) result (negated_at fuel env.now tokens.now) }
+    ensures { Gives (λ x. (x.0, x.1.now)) result (negated_at fuel env.now tokens.now) }
 {
     let (at, rest) = sign_of(Sign::Not, tokens)?;
     if is_name_next(rest) {
@@ -153,7 +152,7 @@ pub fn cond_of<'a>(
     env: &Typedefs,
     tokens: &'a [Token],
 ) -> Reading<'a, P4Cond>
-    ensures { Gives (λ x. (x.0, x.1.now)) (λ e. e.now) result (cond_at fuel env.now tokens.now) }
+    ensures { Gives (λ x. (x.0, x.1.now)) result (cond_at fuel env.now tokens.now) }
 {
     if is_next(Sign::Not, tokens) {
         return negated_of(alloc, fuel, env, tokens);
@@ -163,5 +162,5 @@ pub fn cond_of<'a>(
         return cond_named_of(alloc, fuel, env, None, first, rest);
     }
     let (value, rest) = expr_of(alloc, fuel, env, tokens)?;
-    Ok((P4Cond::Expr(value.expr.into_inner()), rest))
+    Ok((P4Cond::Expr(without_mark(value)), rest))
 }

@@ -1,37 +1,49 @@
 //! What stands before the parser.
 ghost use Rattle.std.specs.Prelude.{◌≡◌, ◌∷◌};
-ghost use Rattle.p4_grammar.specs.Forms.{Gives, hand};
-ghost use Rattle.p4_grammar.specs.Values.{known};
-ghost use Rattle.p4_grammar.specs.ReadingExpressions.{expressions_at, args_at};
+ghost use Rattle.p4_grammar.specs.Forms.{hand};
+ghost use Rattle.p4_grammar.specs.ReadingExpressions.{expression_at, expressions_at, args_at};
 ghost use Rattle.p4_grammar.specs.Reading.{fields_at, header_at, struct_at, typedef_at, const_at, declaration_at, begins_declaration};
-ghost use Rattle.p4_part.specs.Made.{Makes};
+ghost use Rattle.p4_part.specs.Made.{Gives};
 
 use crate::expression::expr_of;
 use crate::part::{Part, parts_behind, parts_until};
 use p4_ast::{P4Const, P4Declaration, P4Expr, P4Field, P4Header, P4Struct, P4Typedef};
 use p4_lex::{Sign, Token};
 use p4_part::list::joined;
-use p4_part::name::{place_of_type, type_of};
+use p4_part::name::{boxed_type_of, place_of_type, type_of};
 use p4_part::token::{Reading, is_next, name_of, sign_of};
 use p4_part::typedefs::Typedefs;
-use p4_part::value::Made;
-use sqlite_items::Items;
+use p4_part::value::without_mark;
+use sqlite_items::{Boxed, Items};
 use std::alloc::Global;
+
+/// Reads an expression, in a box.
+#[tactic(auto, unfolding(p4_grammar::specs::ReadingExpressions::expression_at))]
+pub fn expression_of<'a>(
+    alloc: Global,
+    fuel: usize,
+    env: &Typedefs,
+    tokens: &'a [Token],
+) -> Reading<'a, Boxed<P4Expr>>
+    ensures { Gives (λ x. (x.0, x.1.now)) result (expression_at fuel env.now tokens.now) }
+{
+    let (value, rest) = expr_of(alloc, fuel, env, tokens)?;
+    Ok((without_mark(value), rest))
+}
 
 impl Part for P4Expr {
     ghost use Rattle.p4_grammar.specs.ReadingExpressions.{expression_at};
 
     ghost reader = { expression_at };
 
-    #[tactic(auto, unfolding(p4_grammar::specs::ReadingExpressions::expression_at))]
     fn read<'a>(
         alloc: Global,
         fuel: usize,
         env: &Typedefs,
         tokens: &'a [Token],
     ) -> Reading<'a, P4Expr> {
-        let (value, rest) = expr_of(alloc, fuel, env, tokens)?;
-        Ok((value.expr.into_inner(), rest))
+        let (expr, rest) = expression_of(alloc, fuel, env, tokens)?;
+        Ok((expr.into_inner(), rest))
     }
 }
 
@@ -43,11 +55,11 @@ pub fn expressions_of<'a>(
     env: &Typedefs,
     tokens: &'a [Token],
 ) -> Reading<'a, Items<P4Expr>>
-    ensures { Gives (λ x. (x.0, x.1.now)) (λ e. e.now) result (expressions_at fuel env.now tokens.now) }
+    ensures { Gives (λ x. (x.0, x.1.now)) result (expressions_at fuel env.now tokens.now) }
 {
-    let (first, rest) = P4Expr::read(alloc, fuel, env, tokens)?;
+    let (first, rest) = expression_of(alloc, fuel, env, tokens)?;
     let (more, rest) = parts_behind(alloc, fuel, env, rest)?;
-    let exprs = joined(alloc, first, more)?;
+    let exprs = joined(alloc, first.into_inner(), more)?;
     Ok((exprs, rest))
 }
 
@@ -59,7 +71,7 @@ pub fn args_of<'a>(
     env: &Typedefs,
     tokens: &'a [Token],
 ) -> Reading<'a, Items<P4Expr>>
-    ensures { Gives (λ x. (x.0, x.1.now)) (λ e. e.now) result (args_at fuel env.now tokens.now) }
+    ensures { Gives (λ x. (x.0, x.1.now)) result (args_at fuel env.now tokens.now) }
 {
     let (_, rest) = sign_of(Sign::Open, tokens)?;
     if is_next(Sign::Close, rest) {
@@ -98,7 +110,7 @@ fn fields_of<'a>(
     env: &Typedefs,
     tokens: &'a [Token],
 ) -> Reading<'a, Items<P4Field>>
-    ensures { Gives (λ x. (x.0, x.1.now)) (λ e. e.now) result (fields_at fuel tokens.now) }
+    ensures { Gives (λ x. (x.0, x.1.now)) result (fields_at fuel tokens.now) }
 {
     let (_, rest) = sign_of(Sign::OpenBrace, tokens)?;
     let (fields, rest) = parts_until(alloc, Sign::CloseBrace, fuel, env, rest)?;
@@ -113,7 +125,7 @@ fn header_of<'a>(
     env: &Typedefs,
     tokens: &'a [Token],
 ) -> Reading<'a, P4Header>
-    ensures { Gives (λ x. (x.0, x.1.now)) (λ e. e.now) result (header_at fuel tokens.now) }
+    ensures { Gives (λ x. (x.0, x.1.now)) result (header_at fuel tokens.now) }
 {
     let (at, rest) = sign_of(Sign::Header, tokens)?;
     let (name, rest) = name_of(rest)?;
@@ -128,7 +140,7 @@ fn struct_of<'a>(
     env: &Typedefs,
     tokens: &'a [Token],
 ) -> Reading<'a, P4Struct>
-    ensures { Gives (λ x. (x.0, x.1.now)) (λ e. e.now) result (struct_at fuel tokens.now) }
+    ensures { Gives (λ x. (x.0, x.1.now)) result (struct_at fuel tokens.now) }
 {
     let (at, rest) = sign_of(Sign::Struct, tokens)?;
     let (name, rest) = name_of(rest)?;
@@ -138,7 +150,7 @@ fn struct_of<'a>(
 
 #[tactic(auto, unfolding(p4_grammar::specs::Reading::typedef_at))]
 fn typedef_of(tokens: &[Token]) -> Reading<'_, P4Typedef>
-    ensures { Gives (λ x. (x.0, x.1.now)) (λ e. e.now) result (typedef_at tokens.now) }
+    ensures { Gives (λ x. (x.0, x.1.now)) result (typedef_at tokens.now) }
 {
     let (at, rest) = sign_of(Sign::Typedef, tokens)?;
     let (type_, rest) = type_of(rest)?;
@@ -155,14 +167,15 @@ pub fn const_of<'a>(
     env: &Typedefs,
     tokens: &'a [Token],
 ) -> Reading<'a, P4Const>
-    ensures { Gives (λ x. (x.0, x.1.now)) (λ e. e.now) result (const_at fuel env.now tokens.now) }
+    ensures { Gives (λ x. (x.0, x.1.now)) result (const_at fuel env.now tokens.now) }
 {
     let (at, rest) = sign_of(Sign::Const, tokens)?;
-    let (type_, rest) = type_of(rest)?;
+    let (type_, rest) = boxed_type_of(alloc, rest)?;
     let (name, rest) = name_of(rest)?;
     let (_, rest) = sign_of(Sign::Assign, rest)?;
-    let (expr, rest) = P4Expr::read(alloc, fuel, env, rest)?;
+    let (expr, rest) = expression_of(alloc, fuel, env, rest)?;
     let (_, rest) = sign_of(Sign::Semicolon, rest)?;
+    let type_ = type_.into_inner();
     Ok((
         P4Const {
             at,
@@ -182,7 +195,7 @@ pub fn declaration_of<'a>(
     env: &Typedefs,
     tokens: &'a [Token],
 ) -> Reading<'a, P4Declaration>
-    ensures { Gives (λ x. (x.0, x.1.now)) (λ e. e.now) result (declaration_at fuel env.now tokens.now) }
+    ensures { Gives (λ x. (x.0, x.1.now)) result (declaration_at fuel env.now tokens.now) }
 {
     if is_next(Sign::Header, tokens) {
         let (header, rest) = header_of(alloc, fuel, env, tokens)?;

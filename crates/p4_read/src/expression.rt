@@ -1,12 +1,14 @@
 //! Expressions.
 ghost use Rattle.std.specs.Prelude.{◌≡◌, ◌-◌, ◌<◌, ◌∷◌, [], Some};
-ghost use Rattle.p4_grammar.specs.Forms.{Gives, chain_at, bind_at, done_at};
+ghost use Rattle.p4_grammar.specs.Forms.{chain_at, bind_at, done_at};
 ghost use Rattle.p4_grammar.specs.Tokens.{words_at};
 ghost use Rattle.p4_lex.specs.declared.token.Sign.TheVariants as sign;
-ghost use Rattle.p4_grammar.specs.Values.{this, binary as binary_is, choice_value as choice_value_of};
+ghost use Rattle.p4_grammar.specs.Values.{this, binary as binary_is};
 ghost use Rattle.p4_ast.specs.declared.expression.P4BinaryOp.TheVariants as binary_op;
 ghost use Rattle.p4_grammar.specs.ReadingExpressions.{sliced_at, named_at, plain_at, parens_at, cast_at, closed_at, open_at, unary_of_at, sum_rest_at, sum_at, compared_at, same_op_at, compare_rest_at, compare_at, and_rest_at, and_at, or_rest_at, choice_at, expr_rest_at, unary_at, expr_at, behind_at, expression_at};
+ghost use Rattle.p4_part.specs.Made.{Gives, choice_with};
 
+use p4_part::end::ReadEnd;
 use p4_ast::{P4BinaryOp, P4Expr, P4Name, P4Type};
 use p4_grammar::{Mark, Spelled};
 use p4_lex::{Sign, Token};
@@ -20,8 +22,8 @@ use p4_part::path::front_of;
 use p4_part::token::{Reading, is_name_next, is_next, name_of, number_of, sign_of};
 use p4_part::typedefs::Typedefs;
 use p4_part::value::{
-    binary, cast_name, cast_value, choice_value, ends_in, path_value, plain, slice_value,
-    unary_value, valid_value,
+    binary, cast_name, cast_value, choice, compound, ends_in, path_value, plain, slice_value,
+    unary_value, valid_value, without_mark,
 };
 use sqlite_items::{Boxed, Items};
 use std::alloc::Global;
@@ -29,7 +31,7 @@ use std::alloc::Global;
 // A value, sliced or not.
 #[tactic(auto, unfolding(p4_grammar::specs::ReadingExpressions::sliced_at))]
 fn sliced_of<'a>(alloc: Global, x: Spelled, tokens: &'a [Token]) -> Reading<'a, Spelled>
-    ensures { Gives (λ x. (x.0, x.1.now)) (λ e. e.now) result (sliced_at x tokens.now) }
+    ensures { Gives (λ x. (x.0, x.1.now)) result (sliced_at x tokens.now) }
 {
     if is_next(Sign::OpenSlice, tokens) {
         let (slice, rest) = slice_of(tokens)?;
@@ -47,7 +49,7 @@ pub fn named_of<'a>(
     more: Items<P4Name>,
     tokens: &'a [Token],
 ) -> Reading<'a, Spelled>
-    ensures { Gives (λ x. (x.0, x.1.now)) (λ e. e.now) result (named_at first more tokens.now) }
+    ensures { Gives (λ x. (x.0, x.1.now)) result (named_at first more tokens.now) }
 {
     let names = joined(alloc, first, more)?;
     if ends_in(b"isValid", names.as_slice()) && is_next(Sign::Open, tokens) {
@@ -63,7 +65,7 @@ pub fn named_of<'a>(
 // A number, `true` or `false`, sliced or not.
 #[tactic(auto, unfolding(p4_grammar::specs::ReadingExpressions::plain_at))]
 fn plain_of<'a>(alloc: Global, tokens: &'a [Token]) -> Reading<'a, Spelled>
-    ensures { Gives (λ x. (x.0, x.1.now)) (λ e. e.now) result (plain_at tokens.now) }
+    ensures { Gives (λ x. (x.0, x.1.now)) result (plain_at tokens.now) }
 {
     if is_next(Sign::True, tokens) {
         let (at, rest) = sign_of(Sign::True, tokens)?;
@@ -93,7 +95,7 @@ pub fn parens_of<'a>(
     expr: Boxed<P4Expr>,
     tokens: &'a [Token],
 ) -> Reading<'a, Spelled>
-    ensures { Gives (λ x. (x.0, x.1.now)) (λ e. e.now) result (parens_at at name (unary_at fuel env.now) expr tokens.now) }
+    ensures { Gives (λ x. (x.0, x.1.now)) result (parens_at at name (unary_at fuel env.now) expr tokens.now) }
 {
     match name {
         None => {
@@ -130,7 +132,7 @@ fn cast_of<'a>(
     at: u64,
     tokens: &'a [Token],
 ) -> Reading<'a, Spelled>
-    ensures { Gives (λ x. (x.0, x.1.now)) (λ e. e.now) result (cast_at at (unary_at fuel env.now) tokens.now) }
+    ensures { Gives (λ x. (x.0, x.1.now)) result (cast_at at (unary_at fuel env.now) tokens.now) }
 {
     let (type_, rest) = word_type_of(tokens)?;
     let (_, rest) = sign_of(Sign::Close, rest)?;
@@ -150,7 +152,7 @@ fn closed_of<'a>(
     x: Spelled,
     tokens: &'a [Token],
 ) -> Reading<'a, Spelled>
-    ensures { Gives (λ x. (x.0, x.1.now)) (λ e. e.now) result (closed_at at env.now (unary_at fuel env.now) x tokens.now) }
+    ensures { Gives (λ x. (x.0, x.1.now)) result (closed_at at env.now (unary_at fuel env.now) x tokens.now) }
 {
     let (_, rest) = sign_of(Sign::Close, tokens)?;
     let Spelled { at: _, expr, mark } = x;
@@ -167,7 +169,7 @@ fn open_of<'a>(
     env: &Typedefs,
     tokens: &'a [Token],
 ) -> Reading<'a, Spelled>
-    ensures { Gives (λ x. (x.0, x.1.now)) (λ e. e.now) result (open_at env.now (unary_at fuel env.now) (expr_at fuel env.now) tokens.now) }
+    ensures { Gives (λ x. (x.0, x.1.now)) result (open_at env.now (unary_at fuel env.now) (expr_at fuel env.now) tokens.now) }
 {
     let (at, rest) = sign_of(Sign::Open, tokens)?;
     if is_type_next(rest) {
@@ -186,7 +188,7 @@ fn operand_of<'a>(
     env: &Typedefs,
     tokens: &'a [Token],
 ) -> Reading<'a, Spelled>
-    ensures { Gives (λ x. (x.0, x.1.now)) (λ e. e.now) result (unary_of_at fuel env.now (unary_at fuel env.now) (expr_at fuel env.now) tokens.now) }
+    ensures { Gives (λ x. (x.0, x.1.now)) result (unary_of_at fuel env.now (unary_at fuel env.now) (expr_at fuel env.now) tokens.now) }
 {
     if is_unary_next(tokens) {
         let ((op, at), rest) = unary_op_of(tokens)?;
@@ -214,10 +216,10 @@ pub fn unary_of<'a>(
     env: &Typedefs,
     tokens: &'a [Token],
 ) -> Reading<'a, Spelled>
-    ensures { Gives (λ x. (x.0, x.1.now)) (λ e. e.now) result (unary_at fuel env.now tokens.now) }
+    ensures { Gives (λ x. (x.0, x.1.now)) result (unary_at fuel env.now tokens.now) }
 {
     if fuel == 0 {
-        return Err(Some(tokens));
+        return Err(ReadEnd::At(tokens));
     }
     operand_of(alloc, fuel - 1, env, tokens)
 }
@@ -232,7 +234,7 @@ fn sum_rest_of<'a>(
     first: Spelled,
     tokens: &'a [Token],
 ) -> Reading<'a, Spelled>
-    ensures { Gives (λ x. (x.0, x.1.now)) (λ e. e.now) result (sum_rest_at fuel (unary_at fuel env.now) first tokens.now) }
+    ensures { Gives (λ x. (x.0, x.1.now)) result (sum_rest_at fuel (unary_at fuel env.now) first tokens.now) }
 {
     let mut value = first;
     let mut left = fuel;
@@ -247,7 +249,7 @@ fn sum_rest_of<'a>(
         value = binary(alloc, op, value, right)?;
         rest = after;
     }
-    Err(Some(rest))
+    Err(ReadEnd::At(rest))
 }
 
 #[cycle(expressions)]
@@ -258,7 +260,7 @@ fn sum_of<'a>(
     env: &Typedefs,
     tokens: &'a [Token],
 ) -> Reading<'a, Spelled>
-    ensures { Gives (λ x. (x.0, x.1.now)) (λ e. e.now) result (sum_at fuel (unary_at fuel env.now) tokens.now) }
+    ensures { Gives (λ x. (x.0, x.1.now)) result (sum_at fuel (unary_at fuel env.now) tokens.now) }
 {
     let (first, rest) = unary_of(alloc, fuel, env, tokens)?;
     sum_rest_of(alloc, fuel, env, first, rest)
@@ -274,12 +276,14 @@ fn compared_of<'a>(
     x: Spelled,
     tokens: &'a [Token],
 ) -> Reading<'a, Spelled>
-    ensures { Gives (λ x. (x.0, x.1.now)) (λ e. e.now) result (compared_at fuel (unary_at fuel env.now) x tokens.now) }
+    ensures { Gives (λ x. (x.0, x.1.now)) result (compared_at fuel (unary_at fuel env.now) x tokens.now) }
 {
     if is_compare_next(tokens) {
+        let at = x.at;
+        let left = without_mark(x);
         let (op, rest) = compare_op_of(tokens)?;
         let (right, rest) = sum_of(alloc, fuel, env, rest)?;
-        let value = binary(alloc, op, x, right)?;
+        let value = compound(alloc, op, at, left, right)?;
         return Ok((value, rest));
     }
     Ok((x, tokens))
@@ -295,7 +299,7 @@ fn more_of<'a>(
     first: Spelled,
     tokens: &'a [Token],
 ) -> Reading<'a, Spelled>
-    ensures { Gives (λ x. (x.0, x.1.now)) (λ e. e.now) result (chain_at fuel (λ z. this op) binary_is (unary_at fuel env.now) first tokens.now) }
+    ensures { Gives (λ x. (x.0, x.1.now)) result (chain_at fuel (λ z. this op) binary_is (unary_at fuel env.now) first tokens.now) }
 {
     let mut value = first;
     let mut left = fuel;
@@ -310,7 +314,7 @@ fn more_of<'a>(
         value = binary(alloc, op, value, right)?;
         rest = after;
     }
-    Err(Some(rest))
+    Err(ReadEnd::At(rest))
 }
 
 // A chain of one operator throughout.
@@ -323,11 +327,13 @@ fn same_op_of<'a>(
     x: Spelled,
     tokens: &'a [Token],
 ) -> Reading<'a, Spelled>
-    ensures { Gives (λ x. (x.0, x.1.now)) (λ e. e.now) result (same_op_at fuel (unary_at fuel env.now) x tokens.now) }
+    ensures { Gives (λ x. (x.0, x.1.now)) result (same_op_at fuel (unary_at fuel env.now) x tokens.now) }
 {
+    let at = x.at;
+    let left = without_mark(x);
     let (op, rest) = chain_op_of(tokens)?;
     let (right, rest) = unary_of(alloc, fuel, env, rest)?;
-    let value = binary(alloc, op, x, right)?;
+    let value = compound(alloc, op, at, left, right)?;
     more_of(alloc, fuel, env, op, value, rest)
 }
 
@@ -340,7 +346,7 @@ fn compare_rest_of<'a>(
     x: Spelled,
     tokens: &'a [Token],
 ) -> Reading<'a, Spelled>
-    ensures { Gives (λ x. (x.0, x.1.now)) (λ e. e.now) result (compare_rest_at fuel (unary_at fuel env.now) x tokens.now) }
+    ensures { Gives (λ x. (x.0, x.1.now)) result (compare_rest_at fuel (unary_at fuel env.now) x tokens.now) }
 {
     if is_chain_next(tokens) {
         return same_op_of(alloc, fuel, env, x, tokens);
@@ -357,7 +363,7 @@ fn compare_of<'a>(
     env: &Typedefs,
     tokens: &'a [Token],
 ) -> Reading<'a, Spelled>
-    ensures { Gives (λ x. (x.0, x.1.now)) (λ e. e.now) result (compare_at fuel (unary_at fuel env.now) tokens.now) }
+    ensures { Gives (λ x. (x.0, x.1.now)) result (compare_at fuel (unary_at fuel env.now) tokens.now) }
 {
     let (first, rest) = unary_of(alloc, fuel, env, tokens)?;
     compare_rest_of(alloc, fuel, env, first, rest)
@@ -372,7 +378,7 @@ fn ands_of<'a>(
     first: Spelled,
     tokens: &'a [Token],
 ) -> Reading<'a, Spelled>
-    ensures { Gives (λ x. (x.0, x.1.now)) (λ e. e.now) result (chain_at fuel (λ z. this binary_op.And) binary_is (compare_at fuel (unary_at fuel env.now)) first tokens.now) }
+    ensures { Gives (λ x. (x.0, x.1.now)) result (chain_at fuel (λ z. this binary_op.And) binary_is (compare_at fuel (unary_at fuel env.now)) first tokens.now) }
 {
     let mut value = first;
     let mut left = fuel;
@@ -387,7 +393,7 @@ fn ands_of<'a>(
         value = binary(alloc, op, value, right)?;
         rest = after;
     }
-    Err(Some(rest))
+    Err(ReadEnd::At(rest))
 }
 
 #[cycle(expressions)]
@@ -399,7 +405,7 @@ fn and_rest_of<'a>(
     x: Spelled,
     tokens: &'a [Token],
 ) -> Reading<'a, Spelled>
-    ensures { Gives (λ x. (x.0, x.1.now)) (λ e. e.now) result (and_rest_at fuel (unary_at fuel env.now) x tokens.now) }
+    ensures { Gives (λ x. (x.0, x.1.now)) result (and_rest_at fuel (unary_at fuel env.now) x tokens.now) }
 {
     let (first, rest) = compare_rest_of(alloc, fuel, env, x, tokens)?;
     ands_of(alloc, fuel, env, first, rest)
@@ -413,7 +419,7 @@ fn and_of<'a>(
     env: &Typedefs,
     tokens: &'a [Token],
 ) -> Reading<'a, Spelled>
-    ensures { Gives (λ x. (x.0, x.1.now)) (λ e. e.now) result (and_at fuel (unary_at fuel env.now) tokens.now) }
+    ensures { Gives (λ x. (x.0, x.1.now)) result (and_at fuel (unary_at fuel env.now) tokens.now) }
 {
     let (first, rest) = unary_of(alloc, fuel, env, tokens)?;
     and_rest_of(alloc, fuel, env, first, rest)
@@ -428,7 +434,7 @@ fn ors_of<'a>(
     first: Spelled,
     tokens: &'a [Token],
 ) -> Reading<'a, Spelled>
-    ensures { Gives (λ x. (x.0, x.1.now)) (λ e. e.now) result (chain_at fuel (λ z. this binary_op.Or) binary_is (and_at fuel (unary_at fuel env.now)) first tokens.now) }
+    ensures { Gives (λ x. (x.0, x.1.now)) result (chain_at fuel (λ z. this binary_op.Or) binary_is (and_at fuel (unary_at fuel env.now)) first tokens.now) }
 {
     let mut value = first;
     let mut left = fuel;
@@ -443,7 +449,7 @@ fn ors_of<'a>(
         value = binary(alloc, op, value, right)?;
         rest = after;
     }
-    Err(Some(rest))
+    Err(ReadEnd::At(rest))
 }
 
 #[cycle(expressions)]
@@ -455,7 +461,7 @@ fn or_rest_of<'a>(
     x: Spelled,
     tokens: &'a [Token],
 ) -> Reading<'a, Spelled>
-    ensures { Gives (λ x. (x.0, x.1.now)) (λ e. e.now) result (or_rest_at fuel (unary_at fuel env.now) x tokens.now) }
+    ensures { Gives (λ x. (x.0, x.1.now)) result (or_rest_at fuel (unary_at fuel env.now) x tokens.now) }
 {
     let (first, rest) = and_rest_of(alloc, fuel, env, x, tokens)?;
     ors_of(alloc, fuel, env, first, rest)
@@ -467,15 +473,16 @@ fn second_of<'a>(
     alloc: Global,
     fuel: usize,
     env: &Typedefs,
-    x: Spelled,
-    yes: Spelled,
+    at: u64,
+    test: Boxed<P4Expr>,
+    yes: Boxed<P4Expr>,
     tokens: &'a [Token],
 ) -> Reading<'a, Spelled>
-    ensures { Gives (λ x. (x.0, x.1.now)) (λ e. e.now) result (words_at (sign.Colon ∷ []) (bind_at (expr_at fuel env.now) λ no. done_at (choice_value_of x yes no)) tokens.now) }
+    ensures { Gives (λ x. (x.0, x.1.now)) result (words_at (sign.Colon ∷ []) (bind_at (expr_at fuel env.now) λ no. done_at (choice_with at test yes no)) tokens.now) }
 {
     let (_, rest) = sign_of(Sign::Colon, tokens)?;
     let (no, rest) = expr_of(alloc, fuel, env, rest)?;
-    let value = choice_value(alloc, x, yes, no)?;
+    let value = choice(alloc, at, test, yes, no)?;
     Ok((value, rest))
 }
 
@@ -488,12 +495,14 @@ fn choice_of<'a>(
     x: Spelled,
     tokens: &'a [Token],
 ) -> Reading<'a, Spelled>
-    ensures { Gives (λ x. (x.0, x.1.now)) (λ e. e.now) result (choice_at (expr_at fuel env.now) x tokens.now) }
+    ensures { Gives (λ x. (x.0, x.1.now)) result (choice_at (expr_at fuel env.now) x tokens.now) }
 {
     if is_next(Sign::Ask, tokens) {
+        let at = x.at;
+        let test = without_mark(x);
         let (_, rest) = sign_of(Sign::Ask, tokens)?;
         let (yes, rest) = expr_of(alloc, fuel, env, rest)?;
-        return second_of(alloc, fuel, env, x, yes, rest);
+        return second_of(alloc, fuel, env, at, test, without_mark(yes), rest);
     }
     Ok((x, tokens))
 }
@@ -509,7 +518,7 @@ fn expr_rest_of<'a>(
     tokens: &'a [Token],
 ) -> Reading<'a, Spelled>
     requires { 0 < fuel }
-    ensures { Gives (λ x. (x.0, x.1.now)) (λ e. e.now) result (expr_rest_at fuel (unary_at fuel env.now) (expr_at (fuel - 1) env.now) x tokens.now) }
+    ensures { Gives (λ x. (x.0, x.1.now)) result (expr_rest_at fuel (unary_at fuel env.now) (expr_at (fuel - 1) env.now) x tokens.now) }
 {
     let (value, rest) = or_rest_of(alloc, fuel, env, x, tokens)?;
     choice_of(alloc, fuel - 1, env, value, rest)
@@ -524,10 +533,10 @@ pub fn expr_of<'a>(
     env: &Typedefs,
     tokens: &'a [Token],
 ) -> Reading<'a, Spelled>
-    ensures { Gives (λ x. (x.0, x.1.now)) (λ e. e.now) result (expr_at fuel env.now tokens.now) }
+    ensures { Gives (λ x. (x.0, x.1.now)) result (expr_at fuel env.now tokens.now) }
 {
     if fuel == 0 {
-        return Err(Some(tokens));
+        return Err(ReadEnd::At(tokens));
     }
     let (first, rest) = unary_of(alloc, fuel, env, tokens)?;
     expr_rest_of(alloc, fuel, env, first, rest)
@@ -542,10 +551,10 @@ pub fn behind_of<'a>(
     x: Spelled,
     tokens: &'a [Token],
 ) -> Reading<'a, Spelled>
-    ensures { Gives (λ x. (x.0, x.1.now)) (λ e. e.now) result (behind_at fuel env.now x tokens.now) }
+    ensures { Gives (λ x. (x.0, x.1.now)) result (behind_at fuel env.now x tokens.now) }
 {
     if fuel == 0 {
-        return Err(Some(tokens));
+        return Err(ReadEnd::At(tokens));
     }
     expr_rest_of(alloc, fuel, env, x, tokens)
 }

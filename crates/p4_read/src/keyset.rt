@@ -1,21 +1,23 @@
 //! Keysets.
 ghost use Rattle.std.specs.Prelude.{◌≡◌};
-ghost use Rattle.p4_grammar.specs.Forms.{Gives};
 ghost use Rattle.p4_grammar.specs.Trees.{keyset_place as keyset_place_of};
 ghost use Rattle.p4_read.specs.Keysets.{tuple_end_at, masked_tuple_at, cast_keyset_at};
 ghost use Rattle.p4_grammar.specs.Reading.{any_at, masked_at, tuple_rest_at, one_behind_at, grouped_at, open_keyset_at, keyset_at};
+ghost use Rattle.p4_part.specs.Made.{Finds, Gives};
 
+use p4_part::end::ReadEnd;
+use crate::declaration::expression_of;
 use crate::expression::{behind_of, expr_of, parens_of, unary_of};
 use crate::part::{Part, parts_behind};
-use p4_ast::{P4Expr, P4Keyset, P4One};
+use p4_ast::{P4Keyset, P4One};
 use p4_grammar::Spelled;
 use p4_lex::{Sign, Token};
 use p4_part::list::pair;
 use p4_part::name::{is_type_next, word_type_of};
-use p4_part::token::{Reading, is_next, sign_of};
+use p4_part::token::{Finding, Reading, is_next, sign_of};
 use p4_part::typedefs::Typedefs;
-use p4_part::value::{cast_name, cast_value};
-use sqlite_items::Items;
+use p4_part::value::{boxed, cast_name, cast_value, without_mark};
+use sqlite_items::{Boxed, Items};
 use std::alloc::Global;
 
 // A value, with its mask or without one.
@@ -27,13 +29,13 @@ fn masked_of<'a>(
     x: Spelled,
     tokens: &'a [Token],
 ) -> Reading<'a, P4One>
-    ensures { Gives (λ x. (x.0, x.1.now)) (λ e. e.now) result (masked_at fuel env.now x tokens.now) }
+    ensures { Gives (λ x. (x.0, x.1.now)) result (masked_at fuel env.now x tokens.now) }
 {
-    let Spelled { at, expr, mark: _ } = x;
-    let expr = expr.into_inner();
+    let at = x.at;
+    let expr = without_mark(x);
     if is_next(Sign::Mask, tokens) {
         let (_, rest) = sign_of(Sign::Mask, tokens)?;
-        let (mask, rest) = P4Expr::read(alloc, fuel, env, rest)?;
+        let (mask, rest) = expression_of(alloc, fuel, env, rest)?;
         let mask = Some(mask);
         return Ok((P4One::Expr { at, expr, mask }, rest));
     }
@@ -42,8 +44,8 @@ fn masked_of<'a>(
 }
 
 #[tactic(auto, unfolding(p4_grammar::specs::Reading::any_at))]
-fn any_of<'a>(tokens: &'a [Token]) -> Reading<'a, P4One>
-    ensures { Gives (λ x. (x.0, x.1.now)) (λ e. e.now) result (any_at tokens.now) }
+fn any_of<'a>(tokens: &'a [Token]) -> Finding<'a, P4One>
+    ensures { Finds (λ x. (x.0, x.1.now)) (λ e. e.now) result (any_at tokens.now) }
 {
     let (at, rest) = sign_of(Sign::Any, tokens)?;
     Ok((P4One::Any { at }, rest))
@@ -62,7 +64,8 @@ impl Part for P4One {
         tokens: &'a [Token],
     ) -> Reading<'a, P4One> {
         if is_next(Sign::Any, tokens) {
-            return any_of(tokens);
+            let (one, rest) = any_of(tokens)?;
+            return Ok((one, rest));
         }
         let (x, rest) = expr_of(alloc, fuel, env, tokens)?;
         masked_of(alloc, fuel, env, x, rest)
@@ -78,13 +81,13 @@ fn tuple_end_of<'a>(
     two: Items<P4One>,
     tokens: &'a [Token],
 ) -> Reading<'a, P4Keyset>
-    ensures { Gives (λ x. (x.0, x.1.now)) (λ e. e.now) result (tuple_end_at fuel env.now at two tokens.now) }
+    ensures { Gives (λ x. (x.0, x.1.now)) result (tuple_end_at fuel env.now at two tokens.now) }
 {
     let (more, rest) = parts_behind(alloc, fuel, env, tokens)?;
     let (_, rest) = sign_of(Sign::Close, rest)?;
     let mut ones = two;
     if ones.append(more).is_err() {
-        return Err(None);
+        return Err(ReadEnd::NoMemory);
     }
     Ok((P4Keyset::Tuple { at, ones }, rest))
 }
@@ -99,7 +102,7 @@ fn tuple_rest_of<'a>(
     first: P4One,
     tokens: &'a [Token],
 ) -> Reading<'a, P4Keyset>
-    ensures { Gives (λ x. (x.0, x.1.now)) (λ e. e.now) result (tuple_rest_at fuel env.now at first tokens.now) }
+    ensures { Gives (λ x. (x.0, x.1.now)) result (tuple_rest_at fuel env.now at first tokens.now) }
 {
     let (_, rest) = sign_of(Sign::Comma, tokens)?;
     let (second, rest) = P4One::read(alloc, fuel, env, rest)?;
@@ -116,7 +119,7 @@ fn one_behind_of<'a>(
     x: Spelled,
     tokens: &'a [Token],
 ) -> Reading<'a, P4Keyset>
-    ensures { Gives (λ x. (x.0, x.1.now)) (λ e. e.now) result (one_behind_at fuel env.now x tokens.now) }
+    ensures { Gives (λ x. (x.0, x.1.now)) result (one_behind_at fuel env.now x tokens.now) }
 {
     let (x, rest) = behind_of(alloc, fuel, env, x, tokens)?;
     let (one, rest) = masked_of(alloc, fuel, env, x, rest)?;
@@ -132,18 +135,15 @@ fn masked_tuple_of<'a>(
     x: Spelled,
     tokens: &'a [Token],
 ) -> Reading<'a, P4Keyset>
-    ensures { Gives (λ x. (x.0, x.1.now)) (λ e. e.now) result (masked_tuple_at fuel env.now at x tokens.now) }
+    ensures { Gives (λ x. (x.0, x.1.now)) result (masked_tuple_at fuel env.now at x tokens.now) }
 {
+    let place = x.at;
+    let expr = without_mark(x);
     let (_, rest) = sign_of(Sign::Mask, tokens)?;
-    let (mask, rest) = P4Expr::read(alloc, fuel, env, rest)?;
-    let Spelled {
-        at: place,
-        expr,
-        mark: _,
-    } = x;
+    let (mask, rest) = expression_of(alloc, fuel, env, rest)?;
     let first = P4One::Expr {
         at: place,
-        expr: expr.into_inner(),
+        expr,
         mask: Some(mask),
     };
     tuple_rest_of(alloc, fuel, env, at, first, rest)
@@ -159,7 +159,7 @@ fn grouped_of<'a>(
     x: Spelled,
     tokens: &'a [Token],
 ) -> Reading<'a, P4Keyset>
-    ensures { Gives (λ x. (x.0, x.1.now)) (λ e. e.now) result (grouped_at fuel env.now at x tokens.now) }
+    ensures { Gives (λ x. (x.0, x.1.now)) result (grouped_at fuel env.now at x tokens.now) }
 {
     if is_next(Sign::Mask, tokens) {
         return masked_tuple_of(alloc, fuel, env, at, x, tokens);
@@ -172,7 +172,7 @@ fn grouped_of<'a>(
     if is_next(Sign::Comma, tokens) {
         let first = P4One::Expr {
             at: place,
-            expr: expr.into_inner(),
+            expr,
             mask: None,
         };
         return tuple_rest_of(alloc, fuel, env, at, first, tokens);
@@ -191,7 +191,7 @@ fn cast_keyset_of<'a>(
     at: u64,
     tokens: &'a [Token],
 ) -> Reading<'a, P4Keyset>
-    ensures { Gives (λ x. (x.0, x.1.now)) (λ e. e.now) result (cast_keyset_at fuel env.now at tokens.now) }
+    ensures { Gives (λ x. (x.0, x.1.now)) result (cast_keyset_at fuel env.now at tokens.now) }
 {
     let (type_, rest) = word_type_of(tokens)?;
     let (_, rest) = sign_of(Sign::Close, rest)?;
@@ -207,7 +207,7 @@ fn open_keyset_of<'a>(
     env: &Typedefs,
     tokens: &'a [Token],
 ) -> Reading<'a, P4Keyset>
-    ensures { Gives (λ x. (x.0, x.1.now)) (λ e. e.now) result (open_keyset_at fuel env.now tokens.now) }
+    ensures { Gives (λ x. (x.0, x.1.now)) result (open_keyset_at fuel env.now tokens.now) }
 {
     let (at, rest) = sign_of(Sign::Open, tokens)?;
     if is_next(Sign::Any, rest) {
@@ -221,15 +221,15 @@ fn open_keyset_of<'a>(
     grouped_of(alloc, fuel, env, at, x, rest)
 }
 
-/// Reads a keyset.
+// A keyset.
 #[tactic(auto, unfolding(p4_grammar::specs::Reading::keyset_at))]
-pub fn keyset_of<'a>(
+fn keyset_of<'a>(
     alloc: Global,
     fuel: usize,
     env: &Typedefs,
     tokens: &'a [Token],
 ) -> Reading<'a, P4Keyset>
-    ensures { Gives (λ x. (x.0, x.1.now)) (λ e. e.now) result (keyset_at fuel env.now tokens.now) }
+    ensures { Gives (λ x. (x.0, x.1.now)) result (keyset_at fuel env.now tokens.now) }
 {
     if is_next(Sign::Default, tokens) {
         let (at, rest) = sign_of(Sign::Default, tokens)?;
@@ -240,6 +240,20 @@ pub fn keyset_of<'a>(
     }
     let (one, rest) = P4One::read(alloc, fuel, env, tokens)?;
     Ok((P4Keyset::One(one), rest))
+}
+
+/// Reads a keyset, into a box.
+pub fn boxed_keyset_of<'a>(
+    alloc: Global,
+    fuel: usize,
+    env: &Typedefs,
+    tokens: &'a [Token],
+) -> Reading<'a, Boxed<P4Keyset>>
+    ensures { Gives (λ x. (x.0, x.1.now)) result (keyset_at fuel env.now tokens.now) }
+{
+    let (keyset, rest) = keyset_of(alloc, fuel, env, tokens)?;
+    let keyset = boxed(alloc, keyset)?;
+    Ok((keyset, rest))
 }
 
 /// The place of a keyset.

@@ -1,9 +1,11 @@
 //! Lists of parts.
 ghost use Rattle.std.specs.Prelude.{◌≡◌, ◌∷◌, []};
-ghost use Rattle.p4_grammar.specs.Forms.{Gives, many_at};
+ghost use Rattle.p4_grammar.specs.Forms.{many_at};
 ghost use Rattle.p4_grammar.specs.Tokens.{but, in_hand, words_at};
 ghost use Rattle.p4_lex.specs.declared.token.Sign.TheVariants as sign;
+ghost use Rattle.p4_part.specs.Made.{Gives};
 
+use p4_part::end::ReadEnd;
 use p4_lex::{Sign, Token};
 use p4_part::token::{Reading, is_next, is_other_next, sign_of};
 use p4_part::typedefs::Typedefs;
@@ -14,7 +16,7 @@ use std::alloc::Global;
 pub trait Part: Drop {
     ghost use Rattle.std.specs.Prelude.{ℕ, List, Result};
     ghost use Rattle.p4_lex.specs.declared.token.Token.{Token as TokenValue};
-    ghost use Rattle.p4_grammar.specs.Forms.{Gives};
+    ghost use Rattle.p4_part.specs.Made.{Gives};
 
     /// How one is read, with so much fuel and these typedefs.
     ghost reader: { ℕ → List (List ℕ) → List TokenValue → Result (Self × List TokenValue) (List TokenValue) };
@@ -26,7 +28,7 @@ pub trait Part: Drop {
         env: &Typedefs,
         tokens: &'a [Token],
     ) -> Reading<'a, Self>
-        ensures { Gives (λ x. (x.0, x.1.now)) (λ e. e.now) result (reader fuel env.now tokens.now) };
+        ensures { Gives (λ x. (x.0, x.1.now)) result (reader fuel env.now tokens.now) };
 }
 
 /// Reads parts up to this sign.
@@ -37,7 +39,7 @@ pub fn parts_until<'a, T: Part>(
     env: &Typedefs,
     tokens: &'a [Token],
 ) -> Reading<'a, Items<T>>
-    ensures { Gives (λ x. (x.0, x.1.now)) (λ e. e.now) result (many_at fuel (but end) (T.reader fuel env.now) tokens.now) }
+    ensures { Gives (λ x. (x.0, x.1.now)) result (many_at fuel (but end) (T.reader fuel env.now) tokens.now) }
 {
     let mut parts = Items::new(alloc);
     let mut left = fuel;
@@ -49,11 +51,11 @@ pub fn parts_until<'a, T: Part>(
         }
         let (part, after) = T::read(alloc, fuel, env, rest)?;
         if parts.push(part).is_err() {
-            return Err(None);
+            return Err(ReadEnd::NoMemory);
         }
         rest = after;
     }
-    Err(Some(rest))
+    Err(ReadEnd::At(rest))
 }
 
 // Reads a part behind a comma.
@@ -63,7 +65,7 @@ fn next_part<'a, T: Part>(
     env: &Typedefs,
     tokens: &'a [Token],
 ) -> Reading<'a, T>
-    ensures { Gives (λ x. (x.0, x.1.now)) (λ e. e.now) result (words_at (sign.Comma ∷ []) (T.reader fuel env.now) tokens.now) }
+    ensures { Gives (λ x. (x.0, x.1.now)) result (words_at (sign.Comma ∷ []) (T.reader fuel env.now) tokens.now) }
 {
     let (_, rest) = sign_of(Sign::Comma, tokens)?;
     T::read(alloc, fuel, env, rest)
@@ -76,7 +78,7 @@ pub fn parts_behind<'a, T: Part>(
     env: &Typedefs,
     tokens: &'a [Token],
 ) -> Reading<'a, Items<T>>
-    ensures { Gives (λ x. (x.0, x.1.now)) (λ e. e.now) result (many_at fuel (in_hand sign.Comma) (words_at (sign.Comma ∷ []) (T.reader fuel env.now)) tokens.now) }
+    ensures { Gives (λ x. (x.0, x.1.now)) result (many_at fuel (in_hand sign.Comma) (words_at (sign.Comma ∷ []) (T.reader fuel env.now)) tokens.now) }
 {
     let mut parts = Items::new(alloc);
     let mut left = fuel;
@@ -88,9 +90,9 @@ pub fn parts_behind<'a, T: Part>(
         }
         let (part, after) = next_part(alloc, fuel, env, rest)?;
         if parts.push(part).is_err() {
-            return Err(None);
+            return Err(ReadEnd::NoMemory);
         }
         rest = after;
     }
-    Err(Some(rest))
+    Err(ReadEnd::At(rest))
 }

@@ -1,17 +1,16 @@
 //! Statements.
 //!
 //! Functions within which no statement is read are kept out of line, so that nested statements take less of the stack.
-ghost use Rattle.std.specs.Prelude.{◌≡◌};
-ghost use Rattle.p4_grammar.specs.Forms.{Gives, bind_at, done_at};
-ghost use Rattle.p4_part.specs.Made.{Makes};
+ghost use Rattle.std.specs.Prelude.{◌≡◌, None};
+ghost use Rattle.p4_grammar.specs.Forms.{bind_at, done_at};
+ghost use Rattle.p4_part.specs.Made.{Gives, Makes};
 ghost use Rattle.p4_grammar.specs.ReadingExpressions.{type_at, word_type_at};
 ghost use Rattle.p4_grammar.specs.Trees.{read_piece as read_piece_of, write_piece as write_piece_of};
 ghost use Rattle.p4_grammar.specs.ReadingStatements.{var_at, var_rest_at, var_piece as var_piece_of, read_rest_at, assign_end_at, assign_at, write_rest_at, valid_rest_at, path_led_at, name_led_at, key_at};
 ghost use Rattle.p4_read.specs.Statements.{assigned_expr_at, called_or_assign_at, applied_stmt_at, dot_led_at, call_stmt_at};
 
-use crate::declaration::args_of;
+use crate::declaration::{args_of, expression_of};
 use crate::expression::expr_of;
-use crate::part::Part;
 use p4_ast::{
     P4Apply, P4Assign, P4Callstmt, P4Expr, P4Keystmt, P4Left, P4Name, P4Read, P4Stmt, P4Type,
     P4Valid, P4Validity, P4Var, P4Write,
@@ -19,14 +18,26 @@ use p4_ast::{
 use p4_grammar::{Mark, Piece, Spelled};
 use p4_lex::{Sign, Token};
 use p4_part::list::joined;
-use p4_part::name::{names_of, place_of_type, type_named, type_of, word_type_of};
+use p4_part::name::{boxed_type_of, names_of, place_of_type, type_named, word_type_of};
 use p4_part::path::{front_of, is_only, left_of, slice_or_none_of};
 use p4_part::piece::stmt_piece;
 use p4_part::token::{Reading, is_name_next, is_next, name_of, sign_of};
 use p4_part::typedefs::Typedefs;
-use p4_part::value::{Made, ends_in, path_of, place_of};
-use sqlite_items::Items;
+use p4_part::value::{Made, boxed, ends_in, path_of, place_of};
+use sqlite_items::{Boxed, Items};
 use std::alloc::Global;
+
+// A variable.
+fn var(at: u64, type_: Boxed<P4Type>, name: P4Name, expr: Option<Boxed<P4Expr>>) -> P4Var
+    ensures { result ≡ record { at = at; type_ = type_; name = name; expr = expr } }
+{
+    P4Var {
+        at,
+        type_: type_.into_inner(),
+        name,
+        expr,
+    }
+}
 
 /// Reads a variable behind its type and its name.
 #[tactic(auto, unfolding(p4_grammar::specs::ReadingStatements::var_rest_at))]
@@ -35,38 +46,20 @@ pub fn var_rest_of<'a>(
     fuel: usize,
     env: &Typedefs,
     at: u64,
-    type_: P4Type,
+    type_: Boxed<P4Type>,
     name: P4Name,
     tokens: &'a [Token],
 ) -> Reading<'a, P4Var>
-    ensures { Gives (λ x. (x.0, x.1.now)) (λ e. e.now) result (var_rest_at fuel env.now at type_ name tokens.now) }
+    ensures { Gives (λ x. (x.0, x.1.now)) result (var_rest_at fuel env.now at type_ name tokens.now) }
 {
     if is_next(Sign::Assign, tokens) {
         let (_, rest) = sign_of(Sign::Assign, tokens)?;
-        let (expr, rest) = P4Expr::read(alloc, fuel, env, rest)?;
+        let (expr, rest) = expression_of(alloc, fuel, env, rest)?;
         let (_, rest) = sign_of(Sign::Semicolon, rest)?;
-        let expr = Some(expr);
-        return Ok((
-            P4Var {
-                at,
-                type_,
-                name,
-                expr,
-            },
-            rest,
-        ));
+        return Ok((var(at, type_, name, Some(expr)), rest));
     }
     let (_, rest) = sign_of(Sign::Semicolon, tokens)?;
-    let expr = None;
-    Ok((
-        P4Var {
-            at,
-            type_,
-            name,
-            expr,
-        },
-        rest,
-    ))
+    Ok((var(at, type_, name, None), rest))
 }
 
 fn var_piece<'a>(alloc: Global, var: P4Var) -> Made<'a, Piece>
@@ -83,11 +76,11 @@ pub fn var_of<'a>(
     env: &Typedefs,
     tokens: &'a [Token],
 ) -> Reading<'a, P4Var>
-    ensures { Gives (λ x. (x.0, x.1.now)) (λ e. e.now) result (var_at fuel env.now type_at tokens.now) }
+    ensures { Gives (λ x. (x.0, x.1.now)) result (var_at fuel env.now type_at tokens.now) }
 {
-    let (type_, rest) = type_of(tokens)?;
+    let (type_, rest) = boxed_type_of(alloc, tokens)?;
     let (name, rest) = name_of(rest)?;
-    let at = place_of_type(&type_);
+    let at = place_of_type(type_.get());
     var_rest_of(alloc, fuel, env, at, type_, name, rest)
 }
 
@@ -100,34 +93,60 @@ pub fn word_var_of<'a>(
     env: &Typedefs,
     tokens: &'a [Token],
 ) -> Reading<'a, Piece>
-    ensures { Gives (λ x. (x.0, x.1.now)) (λ e. e.now) result (bind_at (var_at fuel env.now word_type_at) (λ v. done_at (var_piece_of v)) tokens.now) }
+    ensures { Gives (λ x. (x.0, x.1.now)) result (bind_at (var_at fuel env.now word_type_at) (λ v. done_at (var_piece_of v)) tokens.now) }
 {
     let (type_, rest) = word_type_of(tokens)?;
+    let type_ = boxed(alloc, type_)?;
     let (name, rest) = name_of(rest)?;
-    let at = place_of_type(&type_);
+    let at = place_of_type(type_.get());
     let (var, rest) = var_rest_of(alloc, fuel, env, at, type_, name, rest)?;
     let piece = var_piece(alloc, var)?;
     Ok((piece, rest))
 }
 
+// A read, of this index or without one.
 fn read_piece<'a>(
     alloc: Global,
-    left: P4Left,
-    type_: Option<P4Type>,
-    name: P4Name,
-    expr: Option<P4Expr>,
+    read: Boxed<P4Read>,
+    index: Option<Boxed<P4Expr>>,
 ) -> Made<'a, Piece>
-    ensures { Makes result (read_piece_of left type_ name expr) }
+    ensures { Makes result (read_piece_of read.left read.type_ read.name index) }
 {
+    let P4Read {
+        at: _,
+        left,
+        type_,
+        name,
+        expr: _,
+    } = read.into_inner();
     let at = left.at;
     let stmt = P4Stmt::Read(P4Read {
         at,
         left,
         type_,
         name,
-        expr,
+        expr: index,
     });
     stmt_piece(alloc, at, stmt)
+}
+
+// A read without its index.
+fn read_of<'a>(
+    alloc: Global,
+    left: P4Left,
+    type_: Option<Boxed<P4Type>>,
+    name: P4Name,
+) -> Made<'a, Boxed<P4Read>>
+    ensures { Makes result (record { at = left.at; left = left; type_ = type_; name = name; expr = None }) }
+{
+    let read = P4Read {
+        at: left.at,
+        left,
+        type_,
+        name,
+        expr: None,
+    };
+    boxed(alloc, read)
 }
 
 // A read behind the name of its cell, a dot and `read`.
@@ -136,24 +155,22 @@ fn read_rest_of<'a>(
     alloc: Global,
     fuel: usize,
     env: &Typedefs,
-    left: P4Left,
-    type_: Option<P4Type>,
-    name: P4Name,
+    read: Boxed<P4Read>,
     tokens: &'a [Token],
 ) -> Reading<'a, Piece>
-    ensures { Gives (λ x. (x.0, x.1.now)) (λ e. e.now) result (read_rest_at fuel env.now left type_ name tokens.now) }
+    ensures { Gives (λ x. (x.0, x.1.now)) result (read_rest_at fuel env.now read.left read.type_ read.name tokens.now) }
 {
     let (_, rest) = sign_of(Sign::Open, tokens)?;
     if is_next(Sign::Close, rest) {
         let (_, rest) = sign_of(Sign::Close, rest)?;
         let (_, rest) = sign_of(Sign::Semicolon, rest)?;
-        let piece = read_piece(alloc, left, type_, name, None)?;
+        let piece = read_piece(alloc, read, None)?;
         return Ok((piece, rest));
     }
-    let (index, rest) = P4Expr::read(alloc, fuel, env, rest)?;
+    let (index, rest) = expression_of(alloc, fuel, env, rest)?;
     let (_, rest) = sign_of(Sign::Close, rest)?;
     let (_, rest) = sign_of(Sign::Semicolon, rest)?;
-    let piece = read_piece(alloc, left, type_, name, Some(index))?;
+    let piece = read_piece(alloc, read, Some(index))?;
     Ok((piece, rest))
 }
 
@@ -161,10 +178,10 @@ fn read_rest_of<'a>(
 fn assigned_of<'a>(
     alloc: Global,
     left: P4Left,
-    expr: P4Expr,
+    expr: Boxed<P4Expr>,
     tokens: &'a [Token],
 ) -> Reading<'a, Piece>
-    ensures { Gives (λ x. (x.0, x.1.now)) (λ e. e.now) result (assigned_expr_at left expr tokens.now) }
+    ensures { Gives (λ x. (x.0, x.1.now)) result (assigned_expr_at left expr tokens.now) }
 {
     let (_, rest) = sign_of(Sign::Semicolon, tokens)?;
     let at = left.at;
@@ -182,28 +199,21 @@ fn assign_end_of<'a>(
     x: Spelled,
     tokens: &'a [Token],
 ) -> Reading<'a, Piece>
-    ensures { Gives (λ x. (x.0, x.1.now)) (λ e. e.now) result (assign_end_at fuel env.now left x x.mark tokens.now) }
+    ensures { Gives (λ x. (x.0, x.1.now)) result (assign_end_at fuel env.now left x x.mark tokens.now) }
 {
     let Spelled { at: _, expr, mark } = x;
-    let expr = expr.into_inner();
     match mark {
         Mark::Read(name) => {
             if is_next(Sign::Open, tokens) {
-                return read_rest_of(alloc, fuel, env, left, None, name, tokens);
+                let read = read_of(alloc, left, None, name)?;
+                return read_rest_of(alloc, fuel, env, read, tokens);
             }
             assigned_of(alloc, left, expr, tokens)
         }
         Mark::CastRead(type_, name) => {
             if is_next(Sign::Open, tokens) {
-                return read_rest_of(
-                    alloc,
-                    fuel,
-                    env,
-                    left,
-                    Some(type_.into_inner()),
-                    name,
-                    tokens,
-                );
+                let read = read_of(alloc, left, Some(type_), name)?;
+                return read_rest_of(alloc, fuel, env, read, tokens);
             }
             assigned_of(alloc, left, expr, tokens)
         }
@@ -222,7 +232,7 @@ fn assign_of<'a>(
     names: Items<P4Name>,
     tokens: &'a [Token],
 ) -> Reading<'a, Piece>
-    ensures { Gives (λ x. (x.0, x.1.now)) (λ e. e.now) result (assign_at fuel env.now names tokens.now) }
+    ensures { Gives (λ x. (x.0, x.1.now)) result (assign_at fuel env.now names tokens.now) }
 {
     let (slice, rest) = slice_or_none_of(tokens)?;
     let (_, rest) = sign_of(Sign::Assign, rest)?;
@@ -233,8 +243,8 @@ fn assign_of<'a>(
 fn write_piece<'a>(
     alloc: Global,
     name: P4Name,
-    expr: P4Expr,
-    second: Option<P4Expr>,
+    expr: Boxed<P4Expr>,
+    second: Option<Boxed<P4Expr>>,
 ) -> Made<'a, Piece>
     ensures { Makes result (write_piece_of name expr second) }
 {
@@ -257,13 +267,13 @@ fn write_rest_of<'a>(
     name: P4Name,
     tokens: &'a [Token],
 ) -> Reading<'a, Piece>
-    ensures { Gives (λ x. (x.0, x.1.now)) (λ e. e.now) result (write_rest_at fuel env.now name tokens.now) }
+    ensures { Gives (λ x. (x.0, x.1.now)) result (write_rest_at fuel env.now name tokens.now) }
 {
     let (_, rest) = sign_of(Sign::Open, tokens)?;
-    let (expr, rest) = P4Expr::read(alloc, fuel, env, rest)?;
+    let (expr, rest) = expression_of(alloc, fuel, env, rest)?;
     if is_next(Sign::Comma, rest) {
         let (_, rest) = sign_of(Sign::Comma, rest)?;
-        let (second, rest) = P4Expr::read(alloc, fuel, env, rest)?;
+        let (second, rest) = expression_of(alloc, fuel, env, rest)?;
         let (_, rest) = sign_of(Sign::Close, rest)?;
         let (_, rest) = sign_of(Sign::Semicolon, rest)?;
         let piece = write_piece(alloc, name, expr, Some(second))?;
@@ -282,7 +292,7 @@ fn valid_rest_of<'a>(
     validity: P4Validity,
     tokens: &'a [Token],
 ) -> Reading<'a, Piece>
-    ensures { Gives (λ x. (x.0, x.1.now)) (λ e. e.now) result (valid_rest_at names validity tokens.now) }
+    ensures { Gives (λ x. (x.0, x.1.now)) result (valid_rest_at names validity tokens.now) }
 {
     let (_, rest) = sign_of(Sign::Open, tokens)?;
     let (_, rest) = sign_of(Sign::Close, rest)?;
@@ -302,7 +312,7 @@ fn called_or_assign_of<'a>(
     names: Items<P4Name>,
     tokens: &'a [Token],
 ) -> Reading<'a, Piece>
-    ensures { Gives (λ x. (x.0, x.1.now)) (λ e. e.now) result (called_or_assign_at fuel env.now names tokens.now) }
+    ensures { Gives (λ x. (x.0, x.1.now)) result (called_or_assign_at fuel env.now names tokens.now) }
 {
     if is_next(Sign::Open, tokens) {
         if ends_in(b"setValid", names.as_slice()) {
@@ -325,7 +335,7 @@ fn path_led_of<'a>(
     more: Items<P4Name>,
     tokens: &'a [Token],
 ) -> Reading<'a, Piece>
-    ensures { Gives (λ x. (x.0, x.1.now)) (λ e. e.now) result (path_led_at fuel env.now first more tokens.now) }
+    ensures { Gives (λ x. (x.0, x.1.now)) result (path_led_at fuel env.now first more tokens.now) }
 {
     if is_only(b"write", &first, more.as_slice()) && is_next(Sign::Open, tokens) {
         return write_rest_of(alloc, fuel, env, first, tokens);
@@ -336,7 +346,7 @@ fn path_led_of<'a>(
 
 // Behind the name of a table and a dot.
 fn applied_of<'a>(alloc: Global, first: P4Name, tokens: &'a [Token]) -> Reading<'a, Piece>
-    ensures { Gives (λ x. (x.0, x.1.now)) (λ e. e.now) result (applied_stmt_at first tokens.now) }
+    ensures { Gives (λ x. (x.0, x.1.now)) result (applied_stmt_at first tokens.now) }
 {
     let (_, rest) = sign_of(Sign::Apply, tokens)?;
     let (_, rest) = sign_of(Sign::Open, rest)?;
@@ -355,7 +365,7 @@ fn dot_led_of<'a>(
     first: P4Name,
     tokens: &'a [Token],
 ) -> Reading<'a, Piece>
-    ensures { Gives (λ x. (x.0, x.1.now)) (λ e. e.now) result (dot_led_at fuel env.now first tokens.now) }
+    ensures { Gives (λ x. (x.0, x.1.now)) result (dot_led_at fuel env.now first tokens.now) }
 {
     let (_, rest) = sign_of(Sign::Dot, tokens)?;
     if is_next(Sign::Apply, rest) {
@@ -375,7 +385,7 @@ fn call_of<'a>(
     first: P4Name,
     tokens: &'a [Token],
 ) -> Reading<'a, Piece>
-    ensures { Gives (λ x. (x.0, x.1.now)) (λ e. e.now) result (call_stmt_at fuel env.now first tokens.now) }
+    ensures { Gives (λ x. (x.0, x.1.now)) result (call_stmt_at fuel env.now first tokens.now) }
 {
     let (args, rest) = args_of(alloc, fuel, env, tokens)?;
     let (_, rest) = sign_of(Sign::Semicolon, rest)?;
@@ -399,12 +409,13 @@ pub fn name_led_of<'a>(
     first: P4Name,
     tokens: &'a [Token],
 ) -> Reading<'a, Piece>
-    ensures { Gives (λ x. (x.0, x.1.now)) (λ e. e.now) result (name_led_at fuel env.now first tokens.now) }
+    ensures { Gives (λ x. (x.0, x.1.now)) result (name_led_at fuel env.now first tokens.now) }
 {
     if is_name_next(tokens) {
         let (name, rest) = name_of(tokens)?;
         let at = first.at;
-        let (var, rest) = var_rest_of(alloc, fuel, env, at, type_named(first), name, rest)?;
+        let type_ = boxed(alloc, type_named(first))?;
+        let (var, rest) = var_rest_of(alloc, fuel, env, at, type_, name, rest)?;
         let piece = var_piece(alloc, var)?;
         return Ok((piece, rest));
     }
@@ -426,11 +437,11 @@ pub fn key_of<'a>(
     env: &Typedefs,
     tokens: &'a [Token],
 ) -> Reading<'a, Piece>
-    ensures { Gives (λ x. (x.0, x.1.now)) (λ e. e.now) result (key_at fuel env.now tokens.now) }
+    ensures { Gives (λ x. (x.0, x.1.now)) result (key_at fuel env.now tokens.now) }
 {
     let (at, rest) = sign_of(Sign::FlowKey, tokens)?;
     let (_, rest) = sign_of(Sign::Open, rest)?;
-    let (expr, rest) = P4Expr::read(alloc, fuel, env, rest)?;
+    let (expr, rest) = expression_of(alloc, fuel, env, rest)?;
     let (_, rest) = sign_of(Sign::Close, rest)?;
     let (_, rest) = sign_of(Sign::Semicolon, rest)?;
     let piece = stmt_piece(alloc, at, P4Stmt::Keystmt(P4Keystmt { at, expr }))?;

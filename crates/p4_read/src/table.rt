@@ -1,27 +1,29 @@
 //! Tables.
 ghost use Rattle.std.specs.Prelude.{◌≡◌};
-ghost use Rattle.p4_grammar.specs.Forms.{Gives};
 ghost use Rattle.p4_grammar.specs.Trees.{is_none, with_default as with_default_of, with_entries as with_entries_of, with_size as with_size_of};
 ghost use Rattle.p4_grammar.specs.Reading.{match_at, keys_at, acts_at, call_at, start_of as start_is, default_at, entries_at, size_at, properties_at, table_at};
 ghost use Rattle.p4_read.specs.Tables.{default_behind_at, entries_behind_at, after_const_at};
+ghost use Rattle.p4_part.specs.Made.{Finds, Gives, Makes};
 
+use p4_part::end::ReadEnd;
 use crate::declaration::args_of;
 use crate::expression::expr_of;
-use crate::keyset::{keyset_of, keyset_place};
+use crate::keyset::{boxed_keyset_of, keyset_place};
 use crate::part::{Part, parts_until};
 use p4_ast::{
     P4Acts, P4Call, P4Default, P4Entries, P4Entry, P4Key, P4Keys, P4Match, P4Name, P4Size, P4Table,
 };
 use p4_grammar::Properties;
 use p4_lex::{Sign, Token};
-use p4_part::token::{Reading, is_next, name_of, number_of, sign_of};
+use p4_part::token::{Finding, Reading, is_next, name_of, number_of, sign_of};
 use p4_part::typedefs::Typedefs;
-use sqlite_items::Items;
+use p4_part::value::{Made, boxed, without_mark};
+use sqlite_items::{Boxed, Items};
 use std::alloc::Global;
 
 #[tactic(auto, unfolding(p4_grammar::specs::Reading::match_at))]
-fn match_of<'a>(tokens: &'a [Token]) -> Reading<'a, P4Match>
-    ensures { Gives (λ x. (x.0, x.1.now)) (λ e. e.now) result (match_at tokens.now) }
+fn match_of<'a>(tokens: &'a [Token]) -> Finding<'a, P4Match>
+    ensures { Finds (λ x. (x.0, x.1.now)) (λ e. e.now) result (match_at tokens.now) }
 {
     if is_next(Sign::Exact, tokens) {
         let (_, rest) = sign_of(Sign::Exact, tokens)?;
@@ -48,11 +50,11 @@ impl Part for P4Key {
         tokens: &'a [Token],
     ) -> Reading<'a, P4Key> {
         let (x, rest) = expr_of(alloc, fuel, env, tokens)?;
+        let at = x.at;
+        let expr = without_mark(x);
         let (_, rest) = sign_of(Sign::Colon, rest)?;
         let (matching, rest) = match_of(rest)?;
         let (_, rest) = sign_of(Sign::Semicolon, rest)?;
-        let at = x.at;
-        let expr = x.expr.into_inner();
         Ok((P4Key { at, expr, matching }, rest))
     }
 }
@@ -64,7 +66,7 @@ fn keys_of<'a>(
     env: &Typedefs,
     tokens: &'a [Token],
 ) -> Reading<'a, P4Keys>
-    ensures { Gives (λ x. (x.0, x.1.now)) (λ e. e.now) result (keys_at fuel env.now tokens.now) }
+    ensures { Gives (λ x. (x.0, x.1.now)) result (keys_at fuel env.now tokens.now) }
 {
     let (at, rest) = sign_of(Sign::Key, tokens)?;
     let (_, rest) = sign_of(Sign::Assign, rest)?;
@@ -99,7 +101,7 @@ fn acts_of<'a>(
     env: &Typedefs,
     tokens: &'a [Token],
 ) -> Reading<'a, P4Acts>
-    ensures { Gives (λ x. (x.0, x.1.now)) (λ e. e.now) result (acts_at fuel tokens.now) }
+    ensures { Gives (λ x. (x.0, x.1.now)) result (acts_at fuel tokens.now) }
 {
     let (at, rest) = sign_of(Sign::Actions, tokens)?;
     let (_, rest) = sign_of(Sign::Assign, rest)?;
@@ -116,7 +118,7 @@ fn call_of<'a>(
     env: &Typedefs,
     tokens: &'a [Token],
 ) -> Reading<'a, P4Call>
-    ensures { Gives (λ x. (x.0, x.1.now)) (λ e. e.now) result (call_at fuel env.now tokens.now) }
+    ensures { Gives (λ x. (x.0, x.1.now)) result (call_at fuel env.now tokens.now) }
 {
     let (name, rest) = name_of(tokens)?;
     let at = name.at;
@@ -145,7 +147,7 @@ fn default_of<'a>(
     const_: Option<u64>,
     tokens: &'a [Token],
 ) -> Reading<'a, P4Default>
-    ensures { Gives (λ x. (x.0, x.1.now)) (λ e. e.now) result (default_at fuel env.now const_ tokens.now) }
+    ensures { Gives (λ x. (x.0, x.1.now)) result (default_at fuel env.now const_ tokens.now) }
 {
     let (at, rest) = sign_of(Sign::DefaultAction, tokens)?;
     let (_, rest) = sign_of(Sign::Assign, rest)?;
@@ -171,11 +173,11 @@ impl Part for P4Entry {
         env: &Typedefs,
         tokens: &'a [Token],
     ) -> Reading<'a, P4Entry> {
-        let (keyset, rest) = keyset_of(alloc, fuel, env, tokens)?;
+        let (keyset, rest) = boxed_keyset_of(alloc, fuel, env, tokens)?;
         let (_, rest) = sign_of(Sign::Colon, rest)?;
         let (call, rest) = call_of(alloc, fuel, env, rest)?;
         let (_, rest) = sign_of(Sign::Semicolon, rest)?;
-        let at = keyset_place(&keyset);
+        let at = keyset_place(keyset.get());
         Ok((P4Entry { at, keyset, call }, rest))
     }
 }
@@ -188,7 +190,7 @@ fn entries_of<'a>(
     const_: Option<u64>,
     tokens: &'a [Token],
 ) -> Reading<'a, P4Entries>
-    ensures { Gives (λ x. (x.0, x.1.now)) (λ e. e.now) result (entries_at fuel env.now const_ tokens.now) }
+    ensures { Gives (λ x. (x.0, x.1.now)) result (entries_at fuel env.now const_ tokens.now) }
 {
     let (at, rest) = sign_of(Sign::Entries, tokens)?;
     let (_, rest) = sign_of(Sign::Assign, rest)?;
@@ -204,8 +206,8 @@ fn entries_of<'a>(
 }
 
 #[tactic(auto, unfolding(p4_grammar::specs::Reading::size_at))]
-fn size_of<'a>(tokens: &'a [Token]) -> Reading<'a, P4Size>
-    ensures { Gives (λ x. (x.0, x.1.now)) (λ e. e.now) result (size_at tokens.now) }
+fn size_of<'a>(tokens: &'a [Token]) -> Finding<'a, P4Size>
+    ensures { Finds (λ x. (x.0, x.1.now)) (λ e. e.now) result (size_at tokens.now) }
 {
     let (at, rest) = sign_of(Sign::Size, tokens)?;
     let (_, rest) = sign_of(Sign::Assign, rest)?;
@@ -214,34 +216,40 @@ fn size_of<'a>(tokens: &'a [Token]) -> Reading<'a, P4Size>
     Ok((P4Size { at, number }, rest))
 }
 
-fn with_default(a: Properties, default: P4Default) -> Properties
-    ensures { result ≡ with_default_of a default }
+fn with_default<'a>(
+    alloc: Global,
+    a: Boxed<Properties>,
+    default: P4Default,
+) -> Made<'a, Boxed<Properties>>
+    ensures { Makes result (with_default_of a default) }
 {
-    Properties {
-        default: Some(default),
-        entries: a.entries,
-        size: a.size,
-    }
+    let mut a = a.into_inner();
+    a.default = Some(default);
+    boxed(alloc, a)
 }
 
-fn with_entries(a: Properties, entries: P4Entries) -> Properties
-    ensures { result ≡ with_entries_of a entries }
+fn with_entries<'a>(
+    alloc: Global,
+    a: Boxed<Properties>,
+    entries: P4Entries,
+) -> Made<'a, Boxed<Properties>>
+    ensures { Makes result (with_entries_of a entries) }
 {
-    Properties {
-        default: a.default,
-        entries: Some(entries),
-        size: a.size,
-    }
+    let mut a = a.into_inner();
+    a.entries = Some(entries);
+    boxed(alloc, a)
 }
 
-fn with_size(a: Properties, size: P4Size) -> Properties
-    ensures { result ≡ with_size_of a size }
+fn with_size<'a>(
+    alloc: Global,
+    a: Boxed<Properties>,
+    size: P4Size,
+) -> Made<'a, Boxed<Properties>>
+    ensures { Makes result (with_size_of a size) }
 {
-    Properties {
-        default: a.default,
-        entries: a.entries,
-        size: Some(size),
-    }
+    let mut a = a.into_inner();
+    a.size = Some(size);
+    boxed(alloc, a)
 }
 
 // The default action, and the properties behind it.
@@ -251,14 +259,15 @@ fn default_behind_of<'a>(
     fuel: usize,
     env: &Typedefs,
     left: usize,
-    a: Properties,
+    a: Boxed<Properties>,
     const_: Option<u64>,
     tokens: &'a [Token],
-) -> Reading<'a, Properties>
-    ensures { Gives (λ x. (x.0, x.1.now)) (λ e. e.now) result (default_behind_at fuel env.now left a const_ tokens.now) }
+) -> Reading<'a, Boxed<Properties>>
+    ensures { Gives (λ x. (x.0, x.1.now)) result (default_behind_at fuel env.now left a const_ tokens.now) }
 {
     let (default, rest) = default_of(alloc, fuel, env, const_, tokens)?;
-    properties_of(alloc, fuel, env, left, with_default(a, default), rest)
+    let a = with_default(alloc, a, default)?;
+    properties_of(alloc, fuel, env, left, a, rest)
 }
 
 // The entries, and the properties behind them.
@@ -268,14 +277,15 @@ fn entries_behind_of<'a>(
     fuel: usize,
     env: &Typedefs,
     left: usize,
-    a: Properties,
+    a: Boxed<Properties>,
     const_: Option<u64>,
     tokens: &'a [Token],
-) -> Reading<'a, Properties>
-    ensures { Gives (λ x. (x.0, x.1.now)) (λ e. e.now) result (entries_behind_at fuel env.now left a const_ tokens.now) }
+) -> Reading<'a, Boxed<Properties>>
+    ensures { Gives (λ x. (x.0, x.1.now)) result (entries_behind_at fuel env.now left a const_ tokens.now) }
 {
     let (entries, rest) = entries_of(alloc, fuel, env, const_, tokens)?;
-    properties_of(alloc, fuel, env, left, with_entries(a, entries), rest)
+    let a = with_entries(alloc, a, entries)?;
+    properties_of(alloc, fuel, env, left, a, rest)
 }
 
 // Behind `const`.
@@ -285,13 +295,13 @@ fn after_const_of<'a>(
     fuel: usize,
     env: &Typedefs,
     left: usize,
-    a: Properties,
+    a: Boxed<Properties>,
     at: u64,
     tokens: &'a [Token],
-) -> Reading<'a, Properties>
-    ensures { Gives (λ x. (x.0, x.1.now)) (λ e. e.now) result (after_const_at (is_none a.default) (is_none a.entries) (default_behind_at fuel env.now left a) (entries_behind_at fuel env.now left a) at tokens.now) }
+) -> Reading<'a, Boxed<Properties>>
+    ensures { Gives (λ x. (x.0, x.1.now)) result (after_const_at (is_none a.default) (is_none a.entries) (default_behind_at fuel env.now left a) (entries_behind_at fuel env.now left a) at tokens.now) }
 {
-    if a.default.is_none() && (a.entries.is_some() || is_next(Sign::DefaultAction, tokens)) {
+    if a.get().default.is_none() && (a.get().entries.is_some() || is_next(Sign::DefaultAction, tokens)) {
         return default_behind_of(alloc, fuel, env, left, a, Some(at), tokens);
     }
     entries_behind_of(alloc, fuel, env, left, a, Some(at), tokens)
@@ -305,27 +315,28 @@ fn properties_of<'a>(
     fuel: usize,
     env: &Typedefs,
     left: usize,
-    a: Properties,
+    a: Boxed<Properties>,
     tokens: &'a [Token],
-) -> Reading<'a, Properties>
-    ensures { Gives (λ x. (x.0, x.1.now)) (λ e. e.now) result (properties_at fuel env.now left a tokens.now) }
+) -> Reading<'a, Boxed<Properties>>
+    ensures { Gives (λ x. (x.0, x.1.now)) result (properties_at fuel env.now left a tokens.now) }
 {
     if left == 0 {
-        return Err(Some(tokens));
+        return Err(ReadEnd::At(tokens));
     }
-    if is_next(Sign::Const, tokens) && (a.default.is_none() || a.entries.is_none()) {
+    if is_next(Sign::Const, tokens) && (a.get().default.is_none() || a.get().entries.is_none()) {
         let (at, rest) = sign_of(Sign::Const, tokens)?;
         return after_const_of(alloc, fuel, env, left - 1, a, at, rest);
     }
-    if a.default.is_none() && is_next(Sign::DefaultAction, tokens) {
+    if a.get().default.is_none() && is_next(Sign::DefaultAction, tokens) {
         return default_behind_of(alloc, fuel, env, left - 1, a, None, tokens);
     }
-    if a.entries.is_none() && is_next(Sign::Entries, tokens) {
+    if a.get().entries.is_none() && is_next(Sign::Entries, tokens) {
         return entries_behind_of(alloc, fuel, env, left - 1, a, None, tokens);
     }
-    if a.size.is_none() && is_next(Sign::Size, tokens) {
+    if a.get().size.is_none() && is_next(Sign::Size, tokens) {
         let (size, rest) = size_of(tokens)?;
-        return properties_of(alloc, fuel, env, left - 1, with_size(a, size), rest);
+        let a = with_size(alloc, a, size)?;
+        return properties_of(alloc, fuel, env, left - 1, a, rest);
     }
     Ok((a, tokens))
 }
@@ -338,7 +349,7 @@ pub fn table_of<'a>(
     env: &Typedefs,
     tokens: &'a [Token],
 ) -> Reading<'a, P4Table>
-    ensures { Gives (λ x. (x.0, x.1.now)) (λ e. e.now) result (table_at fuel env.now tokens.now) }
+    ensures { Gives (λ x. (x.0, x.1.now)) result (table_at fuel env.now tokens.now) }
 {
     let (at, rest) = sign_of(Sign::Table, tokens)?;
     let (name, rest) = name_of(rest)?;
@@ -350,8 +361,10 @@ pub fn table_of<'a>(
         entries: None,
         size: None,
     };
+    let none = boxed(alloc, none)?;
     let (a, rest) = properties_of(alloc, fuel, env, fuel, none, rest)?;
     let (_, rest) = sign_of(Sign::CloseBrace, rest)?;
+    let a = a.into_inner();
     let table = P4Table {
         at,
         name,

@@ -2,6 +2,7 @@
 
 use p4_parse::{ParseEnd, parse};
 use rp_base::{Bytes, Refused, Why};
+use sqlite_items::Boxed;
 use std::alloc::Global;
 use std::test::Fail;
 
@@ -10,10 +11,13 @@ const FRONT: &[u8] =
     b"parser P(packet_in p, out hs h, inout ms m, inout std_t std) { state start { transition accept; } } \
     control I(inout hs h, inout ms m, inout std_t std) { ";
 
-// Whether a text has a tree, or why it has none. One exit alone drops a tree: the proof of each is long.
+// Whether a text has a tree, or why it has none. A tree is let go in a box, since the proof of an exit that drops one is long.
 pub fn verdict(alloc: Global, text: &[u8]) -> Result<(), ParseEnd> {
     match parse(alloc, text) {
-        Ok(_) => Ok(()),
+        Ok(tree) => {
+            let _boxed = Boxed::new(alloc, tree);
+            Ok(())
+        }
         Err(end) => Err(end),
     }
 }

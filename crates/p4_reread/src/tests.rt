@@ -3,6 +3,7 @@
 use p4_parse::parse;
 use p4_print::print;
 use rp_base::Bytes;
+use sqlite_items::Boxed;
 use std::alloc::Global;
 use std::test::Fail;
 
@@ -172,14 +173,17 @@ struct Seen {
     canonical: Option<Bytes>,
 }
 
-// One exit alone drops a tree: the proof of each is long.
+// A tree is let go in a box, since the proof of an exit that drops one is long.
 fn read_again(alloc: Global, text: &[u8]) -> Option<Seen> {
     match parse(alloc, text) {
-        Ok(tree) => Some(Seen {
-            parser: tree.parser.at,
-            ingress: tree.ingress.at,
-            canonical: print(alloc, &tree).ok(),
-        }),
+        Ok(tree) => {
+            let tree = Boxed::new(alloc, tree).ok()?;
+            Some(Seen {
+                parser: tree.get().parser.at,
+                ingress: tree.get().ingress.at,
+                canonical: print(alloc, tree.get()).ok(),
+            })
+        }
         Err(_) => None,
     }
 }
