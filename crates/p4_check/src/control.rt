@@ -18,7 +18,7 @@ use p4_stmts::declared::{constant, variable};
 use p4_stmts::walk::block;
 use p4_tables::table::table;
 use rp_base::{NoMemory, Refused, Why};
-use sqlite_items::Items;
+use sqlite_items::{Boxed, Items};
 use std::alloc::Global;
 
 // Bits of at most 64.
@@ -125,7 +125,11 @@ fn end_action(n: usize, params: Items<Kind>, s: &mut Scope) -> Result<(), NoMemo
     })
 }
 
-fn action_copy(alloc: Global, a: &P4Action, block: P4Block) -> Result<P4Action, NoMemory>
+fn action_copy(
+    alloc: Global,
+    a: &P4Action,
+    block: Boxed<P4Block>,
+) -> Result<P4Action, NoMemory>
     ensures { IfOk result (λ r. r ≡ record (a.now) { block = block }) }
 {
     let name = name_copy(&a.name)?;
@@ -134,7 +138,7 @@ fn action_copy(alloc: Global, a: &P4Action, block: P4Block) -> Result<P4Action, 
         at: a.at,
         name,
         params,
-        block,
+        block: block.into_inner(),
     })
 }
 
@@ -150,6 +154,7 @@ fn action_body(
 {
     s.begin_action();
     let block = block(alloc, &a.block, s)?;
+    let block = Boxed::new(alloc, block)?;
     end_action(n, params, s)?;
     action_copy(alloc, a, block)
 }

@@ -106,11 +106,12 @@ fn controls(
 ) -> Result<(Items<P4Local>, P4Block), NoMemory>
     ensures { IfOk result (λ r. (s.new, r.0, r.1) ≡ controls p.now h m s.old) }
 {
-    let (locals, block) = ingress(alloc, h, m, &p.ingress, s)?;
+    let parts = ingress(alloc, h, m, &p.ingress, s)?;
+    let parts = Boxed::new(alloc, parts)?;
     deparser(alloc, h, &p.deparser, s)?;
     let f = package_fault(&p.package, s);
     s.note(f);
-    Ok((locals, block))
+    Ok(parts.into_inner())
 }
 
 // What is checked of a program behind these declarations.

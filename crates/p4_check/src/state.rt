@@ -135,13 +135,13 @@ fn case_(
         fault: f,
         keyset,
         ..
-    } = keyset_matched(alloc, ks, &c.keyset, s)?;
+    } = keyset_matched(alloc, ks, c.keyset.get(), s)?;
     let name = name_copy(&c.name)?;
     Ok((
         earlier(f, target_fault(names, &c.name)),
         P4Case {
             at: c.at,
-            keyset: keyset.into_inner(),
+            keyset,
             name,
         },
     ))

@@ -11,6 +11,7 @@ use p4_typing::call::args;
 use p4_typing::typing::at_place;
 use p4_typing::{Form, Typed};
 use rp_base::NoMemory;
+use sqlite_items::Boxed;
 use std::alloc::Global;
 
 // In an action nothing is called and nothing applied.
@@ -52,18 +53,15 @@ pub fn apply(at: u64, x: &P4Name, s: &mut Scope)
     s.applied(at, t);
 }
 
-/// The condition of the `if` at this place.
-///
-/// # Errors
-/// `NoMemory`.
-pub fn cond(alloc: Global, at: u64, c: &P4Cond, s: &mut Scope) -> Result<P4Cond, NoMemory>
+// The condition of the `if` at this place.
+fn cond(alloc: Global, at: u64, c: &P4Cond, s: &mut Scope) -> Result<P4Cond, NoMemory>
     ensures { IfOk result (λ r. (s.new, r) ≡ cond_ at c.now s.old) }
 {
     match c {
         P4Cond::Expr(e) => {
-            let Typed { fault: f, expr, .. } = at_place(alloc, Form::Bool, e, s)?;
+            let Typed { fault: f, expr, .. } = at_place(alloc, Form::Bool, e.get(), s)?;
             s.note(f);
-            Ok(P4Cond::Expr(expr.into_inner()))
+            Ok(P4Cond::Expr(expr))
         }
         P4Cond::Apply {
             at: apply_at,
@@ -80,4 +78,21 @@ pub fn cond(alloc: Global, at: u64, c: &P4Cond, s: &mut Scope) -> Result<P4Cond,
             })
         }
     }
+}
+
+/// The condition of the `if` at this place, boxed: it stands alone, so that the stack grows little while branches are walked.
+///
+/// # Errors
+/// `NoMemory`.
+#[inline(never)]
+pub fn boxed_cond(
+    alloc: Global,
+    at: u64,
+    c: &P4Cond,
+    s: &mut Scope,
+) -> Result<Boxed<P4Cond>, NoMemory>
+    ensures { IfOk result (λ r. (s.new, r) ≡ cond_ at c.now s.old) }
+{
+    let c = cond(alloc, at, c, s)?;
+    Ok(Boxed::new(alloc, c)?)
 }

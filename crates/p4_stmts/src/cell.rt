@@ -7,11 +7,12 @@ use p4_scope::copy::{left_copy, name_copy, type_copy};
 use p4_scope::refusal::{earlier, fault, fault_if};
 use p4_scope::types::type_place;
 use p4_scope::{Kind, Scope, Thing, must_be};
-use p4_typing::call::{maybe_at, unboxed};
+use p4_typing::call::maybe_at;
 use p4_typing::left::left_form;
 use p4_typing::typing::{at_place, form_by, form_of};
 use p4_typing::{Form, Typed};
 use rp_base::{NoMemory, Refused, Why};
+use sqlite_items::Boxed;
 use std::alloc::Global;
 
 // Whether it is a cell that is used so: an array with an index, another without.
@@ -65,14 +66,19 @@ fn read_kind(at: u64, type_at: u64, f: Option<Refused>, k: Kind) -> (Option<Refu
 }
 
 // What a read gives: its cast, or else the cell.
-fn read_form(at: u64, c: &Option<P4Type>, t: Option<Thing>, s: &Scope) -> (Option<Refused>, Form)
+fn read_form(
+    at: u64,
+    c: &Option<Boxed<P4Type>>,
+    t: Option<Thing>,
+    s: &Scope,
+) -> (Option<Refused>, Form)
     ensures { result ≡ read_form at c.now t s.now }
 {
     match c {
         None => (None, cell_form(t)),
         Some(c) => {
-            let (f, k) = s.type_kind(c);
-            read_kind(at, type_place(c), f, k)
+            let (f, k) = s.type_kind(c.get());
+            read_kind(at, type_place(c.get()), f, k)
         }
     }
 }
@@ -88,12 +94,18 @@ fn suits(at: u64, l: Form, r: Form) -> Option<Refused>
     }
 }
 
-fn maybe_type(t: &Option<P4Type>) -> Result<Option<P4Type>, NoMemory>
+fn maybe_type(
+    alloc: Global,
+    t: &Option<Boxed<P4Type>>,
+) -> Result<Option<Boxed<P4Type>>, NoMemory>
     ensures { IfOk result (λ c. c ≡ t.now) }
 {
     match t {
         None => Ok(None),
-        Some(t) => Ok(Some(type_copy(t)?)),
+        Some(t) => {
+            let t = type_copy(t.get())?;
+            Ok(Some(Boxed::new(alloc, t)?))
+        }
     }
 }
 
@@ -113,13 +125,13 @@ pub fn read(alloc: Global, r: &P4Read, s: &mut Scope) -> Result<P4Read, NoMemory
     s.cell_used(r.at, t);
     let name = name_copy(&r.name)?;
     let left = left_copy(alloc, &r.left)?;
-    let type_ = maybe_type(&r.type_)?;
+    let type_ = maybe_type(alloc, &r.type_)?;
     Ok(P4Read {
         at: r.at,
         left,
         type_,
         name,
-        expr: unboxed(expr),
+        expr,
     })
 }
 
@@ -133,7 +145,7 @@ pub fn write(alloc: Global, w: &P4Write, s: &mut Scope) -> Result<P4Write, NoMem
     let t = s.find(&w.name);
     let indexed = w.second.is_some();
     let named = must_be(is_cell(indexed, t), &w.name, t);
-    let Typed { fault: f, expr, .. } = at_place(alloc, first_form(indexed, t), &w.expr, s)?;
+    let Typed { fault: f, expr, .. } = at_place(alloc, first_form(indexed, t), w.expr.get(), s)?;
     let (g, second) = maybe_at(alloc, second_form(t), &w.second, s)?;
     s.note(earlier(named, earlier(f, g)));
     s.cell_used(w.at, t);
@@ -141,7 +153,7 @@ pub fn write(alloc: Global, w: &P4Write, s: &mut Scope) -> Result<P4Write, NoMem
     Ok(P4Write {
         at: w.at,
         name,
-        expr: expr.into_inner(),
-        second: unboxed(second),
+        expr,
+        second,
     })
 }

@@ -12,7 +12,7 @@ use p4_scope::copy::{name_copy, type_copy};
 use p4_scope::refusal::{earlier, fault};
 use p4_scope::{Kind, Scope, Thing, Value};
 use p4_typing::Typed;
-use p4_typing::call::{maybe_at, unboxed};
+use p4_typing::call::maybe_at;
 use p4_typing::constant::{strange, value_of};
 use p4_typing::typing::{at_place, form_of};
 use rp_base::{NoMemory, Refused, Why};
@@ -52,9 +52,9 @@ pub fn constant(alloc: Global, c: &P4Const, s: &mut Scope) -> Result<P4Const, No
     ensures { IfOk result (λ r. (s.new, r) ≡ const_ c.now s.old) }
 {
     let (f, k) = s.plain_kind(c.at, &c.type_);
-    let Typed { fault: g, expr, .. } = at_place(alloc, form_of(k), &c.expr, s)?;
+    let Typed { fault: g, expr, .. } = at_place(alloc, form_of(k), c.expr.get(), s)?;
     let v = kept_value(k, value_of(expr.get(), s));
-    s.note(earlier(f, earlier(g, odd(&c.expr, s))));
+    s.note(earlier(f, earlier(g, odd(c.expr.get(), s))));
     s.declare(alloc, &c.name, Thing::Const(k, v))?;
     let name = name_copy(&c.name)?;
     let type_ = type_copy(&c.type_)?;
@@ -62,7 +62,7 @@ pub fn constant(alloc: Global, c: &P4Const, s: &mut Scope) -> Result<P4Const, No
         at: c.at,
         type_,
         name,
-        expr: expr.into_inner(),
+        expr,
     })
 }
 
@@ -83,6 +83,6 @@ pub fn variable(alloc: Global, v: &P4Var, s: &mut Scope) -> Result<P4Var, NoMemo
         at: v.at,
         type_,
         name,
-        expr: unboxed(expr),
+        expr,
     })
 }

@@ -29,7 +29,7 @@ fn key_width(at: u64, form: Form) -> Option<Refused>
 pub fn keystmt(alloc: Global, k: &P4Keystmt, s: &mut Scope) -> Result<P4Keystmt, NoMemory>
     ensures { IfOk result (λ r. (s.new, r) ≡ keystmt k.now s.old) }
 {
-    let t = typed(alloc, &k.expr, s)?;
+    let t = typed(alloc, k.expr.get(), s)?;
     let Typed {
         fault: f,
         form,
@@ -41,6 +41,6 @@ pub fn keystmt(alloc: Global, k: &P4Keystmt, s: &mut Scope) -> Result<P4Keystmt,
     s.stand(behind_key(site));
     Ok(P4Keystmt {
         at: k.at,
-        expr: expr.into_inner(),
+        expr,
     })
 }

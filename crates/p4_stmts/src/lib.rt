@@ -5,4 +5,5 @@ pub mod call;
 pub mod cell;
 pub mod declared;
 pub mod key;
+mod simple;
 pub mod walk;

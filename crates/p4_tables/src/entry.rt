@@ -99,7 +99,7 @@ fn entry(
         earlier(f, earlier(g, h)),
         P4Entry {
             at: e.at,
-            keyset: keyset.into_inner(),
+            keyset,
             call,
         },
     ))
@@ -118,7 +118,7 @@ fn entries(
     let mut done = Items::new(alloc);
     let mut rows = Named::new(alloc);
     for e in es {
-        let m = keyset_matched(alloc, ks, &e.keyset, s)?;
+        let m = keyset_matched(alloc, ks, e.keyset.get(), s)?;
         let repeated = is_repeated(&m, &rows);
         with_row(alloc, &m, e.at, &mut rows)?;
         let (g, e) = entry(alloc, names, e, m, repeated, s)?;

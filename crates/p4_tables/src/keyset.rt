@@ -49,7 +49,7 @@ fn plain(alloc: Global, k: Key, at: u64, e: &P4Expr, s: &Scope) -> Result<Member
     let (t, f, n) = number_at(alloc, k.form, e, s)?;
     let one = P4One::Expr {
         at,
-        expr: t.expr.into_inner(),
+        expr: t.expr,
         mask: None,
     };
     Ok(Member {
@@ -74,8 +74,8 @@ fn under_mask(
     let h = mask_fault(y.at, k.matching, k.form, m);
     let one = P4One::Expr {
         at,
-        expr: x.expr.into_inner(),
-        mask: Some(y.expr.into_inner()),
+        expr: x.expr,
+        mask: Some(y.expr),
     };
     Ok(Member {
         fault: earlier(f, earlier(g, h)),
@@ -101,12 +101,12 @@ fn member(alloc: Global, k: Key, o: &P4One, s: &Scope) -> Result<Member, NoMemor
             at,
             expr,
             mask: None,
-        } => plain(alloc, k, *at, expr, s),
+        } => plain(alloc, k, *at, expr.get(), s),
         P4One::Expr {
             at,
             expr,
             mask: Some(m),
-        } => under_mask(alloc, k, *at, expr, m, s),
+        } => under_mask(alloc, k, *at, expr.get(), m.get(), s),
     }
 }
 

@@ -39,7 +39,7 @@ impl Keyed {
         self.fault = earlier(self.fault, fault);
         self.keys.push(P4Key {
             at: k.at,
-            expr: expr.into_inner(),
+            expr,
             matching: k.matching,
         })?;
         self.forms.push(Key {
@@ -59,7 +59,7 @@ pub fn keyed(alloc: Global, ks: &[P4Key], s: &Scope) -> Result<Keyed, NoMemory>
 {
     let mut done = Keyed::new(alloc);
     for k in ks {
-        let t = typed(alloc, &k.expr, s)?;
+        let t = typed(alloc, k.expr.get(), s)?;
         let t = bits_alone(alloc, t)?;
         done.add(k, t)?;
     }

@@ -47,25 +47,36 @@ fn with_default(
 fn parts(alloc: Global, t: &P4Table, s: &Scope) -> Result<Boxed<Parts>, NoMemory>
     ensures { IfOk result (λ r. r ≡ parts t.now s.now) }
 {
+    let k = keyed(alloc, t.keys.keys.as_slice(), s)?;
+    let k = Boxed::new(alloc, k)?;
+    let l = acts(alloc, t.acts.names.as_slice(), s)?;
+    let l = Boxed::new(alloc, l)?;
+    let (h, entries) = maybe_entries(
+        alloc,
+        &l.get().names,
+        k.get().forms.as_slice(),
+        &t.entries,
+        s,
+    )?;
+    let entries = Boxed::new(alloc, entries)?;
+    let (i, default) = with_default(alloc, &l.get().names, &t.default, s)?;
     let Keyed {
         fault: f,
         forms,
         keys,
-    } = keyed(alloc, t.keys.keys.as_slice(), s)?;
+    } = k.into_inner();
     let Listed {
         fault: g,
-        names,
         numbers,
-    } = acts(alloc, t.acts.names.as_slice(), s)?;
-    let (h, entries) = maybe_entries(alloc, &names, forms.as_slice(), &t.entries, s)?;
-    let (i, default) = with_default(alloc, &names, &t.default, s)?;
+        ..
+    } = l.into_inner();
     let mixed = fault_if(is_mixed(forms.as_slice()), Why::Kind, t.at);
     let parts = Parts {
         fault: earlier(earlier(f, mixed), earlier(g, earlier(i, h))),
         actions: numbers,
         keys,
         default,
-        entries,
+        entries: entries.into_inner(),
     };
     Ok(Boxed::new(alloc, parts)?)
 }
@@ -113,12 +124,13 @@ fn table_in(alloc: Global, t: &P4Table, p: Boxed<Parts>, s: &mut Scope) -> Resul
         entries,
         size: t.size,
     };
+    let copy = Boxed::new(alloc, copy)?;
     s.add_table(Table {
         actions,
         uses,
         applied: false,
     })?;
-    Ok(copy)
+    Ok(copy.into_inner())
 }
 
 /// A table, in which its name is visible.

@@ -22,7 +22,7 @@ use std::alloc::Global;
 pub fn maybe_at(
     alloc: Global,
     wanted: Form,
-    e: &Option<P4Expr>,
+    e: &Option<Boxed<P4Expr>>,
     s: &Scope,
 ) -> Result<(Option<Refused>, Option<Boxed<P4Expr>>), NoMemory>
     ensures { IfOk result (λ r. r ≡ maybe_at wanted e.now s.now) }
@@ -30,19 +30,9 @@ pub fn maybe_at(
     match e {
         None => Ok((None, None)),
         Some(e) => {
-            let Typed { fault, expr, .. } = at_place(alloc, wanted, e, s)?;
+            let Typed { fault, expr, .. } = at_place(alloc, wanted, e.get(), s)?;
             Ok((fault, Some(expr)))
         }
-    }
-}
-
-/// The expression itself.
-pub fn unboxed(e: Option<Boxed<P4Expr>>) -> Option<P4Expr>
-    ensures { result ≡ e }
-{
-    match e {
-        None => None,
-        Some(e) => Some(e.into_inner()),
     }
 }
 
@@ -59,13 +49,13 @@ pub fn assign(
 {
     let (f, wanted) = left_form(&a.left, s);
     let left = left_copy(alloc, &a.left)?;
-    let Typed { fault: g, expr, .. } = at_place(alloc, wanted, &a.expr, s)?;
+    let Typed { fault: g, expr, .. } = at_place(alloc, wanted, a.expr.get(), s)?;
     Ok((
         earlier(f, g),
         P4Assign {
             at: a.at,
             left,
-            expr: expr.into_inner(),
+            expr,
         },
     ))
 }

@@ -1,6 +1,6 @@
 //! Expressions: one walk gives the first fault, what is known, and the expression with the widths of its literals.
 ghost use Rattle.std.specs.Prelude.{◌≡◌, ◌^◌, nat_le, IfOk, Some, None};
-ghost use Rattle.p4_typing.specs.Expressions.{typed_as, chosen, operation, prefixed, cast_operand, cast, slice_form, sliced, form_by, form_of, literal_by, path_form, valued, type_form, typed, at_place};
+ghost use Rattle.p4_typing.specs.Expressions.{typed_as, expected, alike, operated, bits_alone, chosen, operation, prefixed, cast_operand, cast, slice_form, sliced, form_by, form_of, literal_by, path_form, valued, type_form, typed, at_place};
 ghost use Rattle.std.specs.Prelude.{ℕ};
 ghost use Rattle.p4_scope.specs.Paths.{header_path};
 ghost use Rattle.p4_typing.specs.declared.form.Form.TheVariants as form;
@@ -20,6 +20,7 @@ use rp_base::{NoMemory, Refused, Why};
 use sqlite_items::Boxed;
 use std::alloc::Global;
 
+#[inline(never)]
 fn typed_as(
     alloc: Global,
     at: u64,
@@ -96,6 +97,7 @@ fn with_operator(
     typed_as(alloc, at, fault, form, P4Expr::Unary { at, op, operand })
 }
 
+#[inline(never)]
 fn prefixed(alloc: Global, at: u64, op: P4UnaryOp, t: Typed) -> Result<Typed, NoMemory>
     ensures { IfOk result (λ r. r ≡ prefixed at op t) }
 {
@@ -136,6 +138,7 @@ fn cast_operand(alloc: Global, to: Form, t: Typed) -> Result<Typed, NoMemory>
     }
 }
 
+#[inline(never)]
 fn cast(
     alloc: Global,
     at: u64,
@@ -218,6 +221,28 @@ fn literal_form(n: P4Number) -> (Option<Refused>, Form)
     }
 }
 
+#[inline(never)]
+fn literal(alloc: Global, at: u64, number: P4Number) -> Result<Typed, NoMemory>
+    ensures { IfOk result (λ t. t ≡ literal_by number.width at number) }
+{
+    let (f, form) = literal_form(number);
+    typed_as(alloc, at, f, form, P4Expr::Number { at, number })
+}
+
+#[inline(never)]
+fn truth(alloc: Global, at: u64) -> Result<Typed, NoMemory>
+    ensures { IfOk result (λ t. t ≡ typed_as at None form.Bool (expr.True at)) }
+{
+    typed_as(alloc, at, None, Form::Bool, P4Expr::True { at })
+}
+
+#[inline(never)]
+fn falsehood(alloc: Global, at: u64) -> Result<Typed, NoMemory>
+    ensures { IfOk result (λ t. t ≡ typed_as at None form.Bool (expr.False at)) }
+{
+    typed_as(alloc, at, None, Form::Bool, P4Expr::False { at })
+}
+
 /// What a value of this kind gives: a header or structure fails at this place.
 pub fn form_by(at: u64, f: Option<Refused>, k: Kind) -> (Option<Refused>, Form)
     ensures { result ≡ form_by at f k }
@@ -248,6 +273,7 @@ fn type_form(t: &P4Type, s: &Scope) -> (Option<Refused>, Form)
     form_by(type_place(t), f, k)
 }
 
+#[inline(never)]
 fn valued(alloc: Global, at: u64, path: &P4Path, s: &Scope) -> Result<Typed, NoMemory>
     ensures { IfOk result (λ t. t ≡ valued at path.now (path_form at path.now s.now)) }
 {
@@ -257,6 +283,7 @@ fn valued(alloc: Global, at: u64, path: &P4Path, s: &Scope) -> Result<Typed, NoM
     typed_as(alloc, at, f, form, P4Expr::Path { at, path })
 }
 
+#[inline(never)]
 fn validity(alloc: Global, at: u64, path: &P4Path, s: &Scope) -> Result<Typed, NoMemory>
     ensures { IfOk result (λ t. t ≡ typed_as at (header_path path.now s.now) form.Bool (expr.IsValid at path.now)) }
 {
@@ -265,7 +292,38 @@ fn validity(alloc: Global, at: u64, path: &P4Path, s: &Scope) -> Result<Typed, N
     typed_as(alloc, at, f, Form::Bool, P4Expr::IsValid { at, path })
 }
 
-/// An expression behind its checks.
+#[inline(never)]
+fn choice(alloc: Global, at: u64, t: Typed, l: Typed, r: Typed) -> Result<Typed, NoMemory>
+    ensures { IfOk result (λ x. x ≡ chosen at (expected form.Bool t) (alike l r)) }
+{
+    let o = alike(alloc, l, r)?;
+    let t = expected(alloc, Form::Bool, t)?;
+    chosen(alloc, at, t, o)
+}
+
+#[inline(never)]
+fn binary(
+    alloc: Global,
+    at: u64,
+    op: P4BinaryOp,
+    l: Typed,
+    r: Typed,
+) -> Result<Typed, NoMemory>
+    ensures { IfOk result (λ x. x ≡ operation at op (operated op at l r)) }
+{
+    let o = operated(alloc, op, at, l, r)?;
+    operation(alloc, at, op, o)
+}
+
+#[inline(never)]
+fn cut(alloc: Global, at: u64, slice: P4Slice, t: Typed) -> Result<Typed, NoMemory>
+    ensures { IfOk result (λ x. x ≡ sliced at slice (bits_alone t)) }
+{
+    let t = bits_alone(alloc, t)?;
+    sliced(alloc, at, slice, t)
+}
+
+/// An expression behind its checks. What isn't the walk itself stands in functions of its own, so that the stack grows little.
 ///
 /// # Errors
 /// `NoMemory`.
@@ -277,9 +335,7 @@ pub fn typed(alloc: Global, e: &P4Expr, s: &Scope) -> Result<Typed, NoMemory>
             let t = typed(alloc, test.get(), s)?;
             let l = typed(alloc, yes.get(), s)?;
             let r = typed(alloc, no.get(), s)?;
-            let t = expected(alloc, Form::Bool, t)?;
-            let o = alike(alloc, l, r)?;
-            chosen(alloc, *at, t, o)
+            choice(alloc, *at, t, l, r)
         }
         P4Expr::Binary {
             at,
@@ -289,8 +345,7 @@ pub fn typed(alloc: Global, e: &P4Expr, s: &Scope) -> Result<Typed, NoMemory>
         } => {
             let l = typed(alloc, left.get(), s)?;
             let r = typed(alloc, right.get(), s)?;
-            let o = operated(alloc, *op, *at, l, r)?;
-            operation(alloc, *at, *op, o)
+            binary(alloc, *at, *op, l, r)
         }
         P4Expr::Unary { at, op, operand } => {
             let t = typed(alloc, operand.get(), s)?;
@@ -303,19 +358,11 @@ pub fn typed(alloc: Global, e: &P4Expr, s: &Scope) -> Result<Typed, NoMemory>
         }
         P4Expr::Slice { at, operand, slice } => {
             let t = typed(alloc, operand.get(), s)?;
-            let t = bits_alone(alloc, t)?;
-            sliced(alloc, *at, *slice, t)
+            cut(alloc, *at, *slice, t)
         }
-        P4Expr::Number { at, number } => {
-            let (f, form) = literal_form(*number);
-            let expr = P4Expr::Number {
-                at: *at,
-                number: *number,
-            };
-            typed_as(alloc, *at, f, form, expr)
-        }
-        P4Expr::True { at } => typed_as(alloc, *at, None, Form::Bool, P4Expr::True { at: *at }),
-        P4Expr::False { at } => typed_as(alloc, *at, None, Form::Bool, P4Expr::False { at: *at }),
+        P4Expr::Number { at, number } => literal(alloc, *at, *number),
+        P4Expr::True { at } => truth(alloc, *at),
+        P4Expr::False { at } => falsehood(alloc, *at),
         P4Expr::Path { at, path } => valued(alloc, *at, path, s),
         P4Expr::IsValid { at, path } => validity(alloc, *at, path, s),
     }
