@@ -4,9 +4,11 @@ use rp_app::Delta;
 use rp_base::{Bytes, Key, Lost, NoMemory, Node};
 use sqlite_items::Items;
 use std::alloc::Global;
+use std::process::Abort;
 use std::test::Fail;
 
 // Three replicas in a chain, the messages that were sent and not carried yet, and why the last message was lost.
+// What goes on in it stands in functions that borrow it.
 #[derive(Drop)]
 struct Line {
     head: Replica,
@@ -14,7 +16,6 @@ struct Line {
     tail: Replica,
     way: Msgs,
     lost: Option<Lost>,
-    alloc: Global,
 }
 
 fn config(number: u64, members: &[u8]) -> Config {
@@ -37,6 +38,24 @@ fn replica(alloc: Global, me: u8, cells: u16, members: &[u8]) -> Result<Replica,
     Replica::open(alloc, me, cells, &terms, &config(1, members))
 }
 
+// What a replica sent, whether it applied an entry, and why it lost the message.
+fn told(
+    replica: &mut Replica,
+    now: u64,
+    input: &Input,
+) -> Result<(Msgs, bool, Option<Lost>), NoMemory> {
+    if replica.turns() >= 1000 {
+        return Err(NoMemory);
+    }
+    let did = replica.on(now, input)?;
+    let StoreDid {
+        sent,
+        applied,
+        lost,
+    } = did;
+    Ok((sent, applied.is_some(), lost))
+}
+
 impl Line {
     fn of_three(alloc: Global) -> Result<Line, NoMemory> {
         Ok(Line {
@@ -45,7 +64,6 @@ impl Line {
             tail: replica(alloc, 2, 1, &[0, 1, 2])?,
             way: Items::new(alloc),
             lost: None,
-            alloc,
         })
     }
 
@@ -56,11 +74,9 @@ impl Line {
             1 => &mut self.middle,
             _ => &mut self.tail,
         };
-        if node.turns() < 1000 {
-            let did = node.on(now, &input)?;
-            self.lost = did.lost;
-            self.way.append(did.sent)?;
-        }
+        let (sent, _, lost) = told(node, now, &input)?;
+        self.lost = lost;
+        self.way.append(sent)?;
         Ok(())
     }
 
@@ -169,11 +185,8 @@ fn put(alloc: Global, key: Key, epoch: u64, number: u64, mark: u64) -> Result<In
     ))
 }
 
-#[test]
-fn a_lost_forward_goes_again_and_the_tail_answers(rt: HostRuntime) -> Result<(), Fail> {
-    let alloc = rt.alloc();
-    let key = Key::of(b"a").ok_or("a key")?;
-    let mut line = Line::of_three(alloc)?;
+// A Forward is lost and goes again, and the tail answers.
+fn lost_forward(rt: &impl Abort, alloc: Global, line: &mut Line, key: Key) -> Result<(), Fail> {
     line.give(0, 5, ask(alloc, 0, key, 1))?;
     assert_eq!(rt; line.first(), (7, Node::Replica(1), 1));
     line.lose();
@@ -204,10 +217,14 @@ fn a_lost_forward_goes_again_and_the_tail_answers(rt: HostRuntime) -> Result<(),
 }
 
 #[test]
-fn puts_go_by_epoch_and_number(rt: HostRuntime) -> Result<(), Fail> {
-    let alloc = rt.alloc();
+fn a_lost_forward_goes_again_and_the_tail_answers(rt: HostRuntime) -> Result<(), Fail> {
     let key = Key::of(b"a").ok_or("a key")?;
-    let mut line = Line::of_three(alloc)?;
+    let mut line = Line::of_three(rt.alloc())?;
+    lost_forward(&rt, rt.alloc(), &mut line, key)
+}
+
+// Puts of a flow without a record, too far and next, and an Ask of another switch.
+fn numbered_puts(rt: &impl Abort, alloc: Global, line: &mut Line, key: Key) -> Result<(), Fail> {
     line.give(0, 5, put(alloc, key, 1, 1, 1)?)?;
     assert_eq!(rt; line.first(), (6, Node::Switch(0), 0));
     line.lose();
@@ -234,6 +251,13 @@ fn puts_go_by_epoch_and_number(rt: HostRuntime) -> Result<(), Fail> {
     Ok(())
 }
 
+#[test]
+fn puts_go_by_epoch_and_number(rt: HostRuntime) -> Result<(), Fail> {
+    let key = Key::of(b"a").ok_or("a key")?;
+    let mut line = Line::of_three(rt.alloc())?;
+    numbered_puts(&rt, rt.alloc(), &mut line, key)
+}
+
 // A chunk of so many cells, each 6.
 fn chunk(n: u16, key: Key, place: u8) -> Input {
     let mut cells = Chunk::new();
@@ -256,18 +280,26 @@ fn chunk(n: u16, key: Key, place: u8) -> Input {
     )
 }
 
-#[test]
-fn a_round_is_appended_once_it_is_whole(rt: HostRuntime) -> Result<(), Fail> {
-    let alloc = rt.alloc();
-    let key = Key::of(b"a").ok_or("a key")?;
-    let mut only = replica(alloc, 0, 40, &[0])?;
-    only.on(1, &ask(alloc, 0, key, 1))?;
-    let short = only.on(2, &chunk(9, key, 1))?;
-    assert_eq!(rt; short.lost, Some(Lost::Stale));
-    let half = only.on(3, &chunk(8, key, 1))?;
-    assert_eq!(rt; (half.sent.len(), half.applied.is_some()), (0, false));
-    let whole = only.on(4, &chunk(32, key, 0))?;
-    assert_eq!(rt; (whole.sent.len(), whole.applied.is_some()), (1, true));
+// What a replica makes of an input: the number of messages, whether it applied an entry, and why it lost the message.
+fn seen(
+    replica: &mut Replica,
+    now: u64,
+    input: Input,
+) -> Result<(usize, bool, Option<Lost>), NoMemory> {
+    let (sent, applied, lost) = told(replica, now, &input)?;
+    Ok((sent.len(), applied, lost))
+}
+
+// A round of two chunks, the last of which comes first.
+fn whole_round(rt: &impl Abort, alloc: Global, only: &mut Replica, key: Key) -> Result<(), Fail> {
+    let granted = seen(only, 1, ask(alloc, 0, key, 1))?;
+    assert_eq!(rt; granted, (1, true, None));
+    let short = seen(only, 2, chunk(9, key, 1))?;
+    assert_eq!(rt; short, (0, false, Some(Lost::Stale)));
+    let half = seen(only, 3, chunk(8, key, 1))?;
+    assert_eq!(rt; half, (0, false, None));
+    let whole = seen(only, 4, chunk(32, key, 0))?;
+    assert_eq!(rt; whole, (1, true, None));
     let record = only.leases().get(&key).ok_or("a record")?;
     assert_eq!(rt;
         (record.last, record.moment, record.cells.as_slice().len()),
@@ -275,4 +307,11 @@ fn a_round_is_appended_once_it_is_whole(rt: HostRuntime) -> Result<(), Fail> {
     );
     assert_eq!(rt; record.cells.at(39).copied(), Some(6));
     Ok(())
+}
+
+#[test]
+fn a_round_is_appended_once_it_is_whole(rt: HostRuntime) -> Result<(), Fail> {
+    let key = Key::of(b"a").ok_or("a key")?;
+    let mut only = replica(rt.alloc(), 0, 40, &[0])?;
+    whole_round(&rt, rt.alloc(), &mut only, key)
 }
