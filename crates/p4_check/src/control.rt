@@ -125,11 +125,7 @@ fn end_action(n: usize, params: Items<Kind>, s: &mut Scope) -> Result<(), NoMemo
     })
 }
 
-fn action_copy(
-    alloc: Global,
-    a: &P4Action,
-    block: Boxed<P4Block>,
-) -> Result<P4Action, NoMemory>
+fn action_copy(alloc: Global, a: &P4Action, block: Boxed<P4Block>) -> Result<P4Action, NoMemory>
     ensures { IfOk result (λ r. r ≡ record (a.now) { block = block }) }
 {
     let name = name_copy(&a.name)?;

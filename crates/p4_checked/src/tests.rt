@@ -218,7 +218,10 @@ fn faults_have_their_places_and_causes(rt: HostRuntime) -> Result<(), Fail> {
         ),
     ] {
         let text = program(rt.alloc(), states, locals, body)?;
-        assert_eq!(rt; verdict(rt.alloc(), text.as_slice()), Err(CheckEnd::Refused(Refused { at, why })));
+        assert_eq!(rt;
+            verdict(rt.alloc(), text.as_slice()),
+            Err(CheckEnd::Refused(Refused { at, why }))
+        );
     }
     Ok(())
 }
@@ -227,13 +230,25 @@ fn faults_have_their_places_and_causes(rt: HostRuntime) -> Result<(), Fail> {
 fn good_programs_are_accepted(rt: HostRuntime) -> Result<(), Fail> {
     for (locals, body) in [
         // a cell and an array
-        (b"".as_slice(), b"    flow_key(h.h.k); m.x = c.read(); a.write(1, m.x + 1);".as_slice()),
+        (
+            b"".as_slice(),
+            b"    flow_key(h.h.k); m.x = c.read(); a.write(1, m.x + 1);".as_slice(),
+        ),
         // a name again in a sibling block, and one behind its block
-        (b"".as_slice(), b"    { bit<8> v = 1; m.x = v; } { bit<16> v; m.y = v; } bit<1> v = 1w1;".as_slice()),
+        (
+            b"".as_slice(),
+            b"    { bit<8> v = 1; m.x = v; } { bit<16> v; m.y = v; } bit<1> v = 1w1;".as_slice(),
+        ),
         // a literal takes the width of the other operand, and a shift's sides need not agree
-        (b"".as_slice(), b"    m.y = m.y + 300; m.x = m.x << m.y; m.b = 300 == m.y;".as_slice()),
+        (
+            b"".as_slice(),
+            b"    m.y = m.y + 300; m.x = m.x << m.y; m.b = 300 == m.y;".as_slice(),
+        ),
         // a flow key in the last branch of the last statement
-        (b"".as_slice(), b"    if (m.b) m.x = 1; else { flow_key(h.h.k ++ h.h.i); c.write(m.x); }".as_slice()),
+        (
+            b"".as_slice(),
+            b"    if (m.b) m.x = 1; else { flow_key(h.h.k ++ h.h.i); c.write(m.x); }".as_slice(),
+        ),
         // an action that a body's table lists
         (
             b"  action put(bit<8> v) { c.write(v); }\n  table t { key = { h.h.k : lpm; } actions = { put; } const entries = { 16 &&& 240 : put(1); 16 &&& 248 : put(2); } }\n".as_slice(),

@@ -94,10 +94,7 @@ fn suits(at: u64, l: Form, r: Form) -> Option<Refused>
     }
 }
 
-fn maybe_type(
-    alloc: Global,
-    t: &Option<Boxed<P4Type>>,
-) -> Result<Option<Boxed<P4Type>>, NoMemory>
+fn maybe_type(alloc: Global, t: &Option<Boxed<P4Type>>) -> Result<Option<Boxed<P4Type>>, NoMemory>
     ensures { IfOk result (λ c. c ≡ t.now) }
 {
     match t {

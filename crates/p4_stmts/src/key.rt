@@ -39,8 +39,5 @@ pub fn keystmt(alloc: Global, k: &P4Keystmt, s: &mut Scope) -> Result<P4Keystmt,
     let site = s.site();
     s.note(earlier(f, earlier(key_width(k.at, form), key_fault(k.at, site))));
     s.stand(behind_key(site));
-    Ok(P4Keystmt {
-        at: k.at,
-        expr,
-    })
+    Ok(P4Keystmt { at: k.at, expr })
 }

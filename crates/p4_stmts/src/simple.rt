@@ -55,11 +55,7 @@ pub fn block_stmt(alloc: Global, b: Boxed<P4Block>) -> Result<Boxed<P4Stmt>, NoM
 /// # Errors
 /// `NoMemory`.
 #[inline(never)]
-pub fn boxed_block(
-    alloc: Global,
-    at: u64,
-    stmts: Items<P4Stmt>,
-) -> Result<Boxed<P4Block>, NoMemory>
+pub fn boxed_block(alloc: Global, at: u64, stmts: Items<P4Stmt>) -> Result<Boxed<P4Block>, NoMemory>
     ensures { IfOk result (λ r. r ≡ roll-P4Block (record { at = at; stmts = stmts })) }
 {
     Ok(Boxed::new(alloc, P4Block { at, stmts })?)

@@ -78,12 +78,7 @@ fn walked(alloc: Global, b: &P4Block, s: &mut Scope) -> Result<Boxed<P4Block>, N
 
 // An `if`.
 #[cycle(walk)]
-fn branches(
-    alloc: Global,
-    i: &P4If,
-    last: bool,
-    s: &mut Scope,
-) -> Result<Boxed<P4If>, NoMemory>
+fn branches(alloc: Global, i: &P4If, last: bool, s: &mut Scope) -> Result<Boxed<P4If>, NoMemory>
     ensures { IfOk result (λ r. (s.new, r) ≡ if_ i.now last s.old) }
 {
     let inner = in_branch(last, s.site());

@@ -302,13 +302,7 @@ fn choice(alloc: Global, at: u64, t: Typed, l: Typed, r: Typed) -> Result<Typed,
 }
 
 #[inline(never)]
-fn binary(
-    alloc: Global,
-    at: u64,
-    op: P4BinaryOp,
-    l: Typed,
-    r: Typed,
-) -> Result<Typed, NoMemory>
+fn binary(alloc: Global, at: u64, op: P4BinaryOp, l: Typed, r: Typed) -> Result<Typed, NoMemory>
     ensures { IfOk result (λ x. x ≡ operation at op (operated op at l r)) }
 {
     let o = operated(alloc, op, at, l, r)?;
