@@ -1,0 +1,3 @@
+pub mod Leases
+pub mod Rings
+pub mod Rounds
