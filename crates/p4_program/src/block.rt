@@ -5,10 +5,10 @@ ghost use Rattle.p4_grammar.specs.ReadingStatements.{block_of_at, else_at, if_at
 ghost use Rattle.p4_program.specs.Blocks.{block_rest_at, behind_else_at};
 ghost use Rattle.p4_part.specs.Made.{Gives};
 
-use p4_part::end::ReadEnd;
 use p4_ast::{P4Block, P4Cond};
 use p4_grammar::Piece;
 use p4_lex::{Sign, Token};
+use p4_part::end::ReadEnd;
 use p4_part::name::is_type_next;
 use p4_part::piece::{branch, if_else_piece, if_piece, is_open, keep};
 use p4_part::token::{Reading, is_next, is_other_next, name_of, sign_of};

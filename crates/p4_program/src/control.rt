@@ -7,11 +7,11 @@ ghost use Rattle.p4_lex.specs.declared.token.Sign.TheVariants as sign;
 ghost use Rattle.p4_program.specs.Controls.{typed_rest_at, ingress_with, behind_params_at, params_at};
 ghost use Rattle.p4_part.specs.Made.{Gives};
 
-use p4_part::end::ReadEnd;
 use crate::block::block_of;
 use p4_ast::{P4Action, P4Block, P4Cell, P4Field, P4Ingress, P4Local, P4Name, P4Param};
 use p4_lex::{Sign, Token};
 use p4_part::closing::closed_type_of;
+use p4_part::end::ReadEnd;
 use p4_part::list::joined;
 use p4_part::name::{place_of_type, type_of};
 use p4_part::token::{Reading, is_next, is_other_next, name_of, number_of, sign_of};
@@ -203,10 +203,7 @@ fn locals_of<'a>(
 
 // A fourth parameter, or none.
 #[tactic(auto, unfolding(p4_grammar::specs::Reading::last_param_at))]
-fn last_param_of<'a>(
-    alloc: Global,
-    tokens: &'a [Token],
-) -> Reading<'a, Boxed<Option<P4Param>>>
+fn last_param_of<'a>(alloc: Global, tokens: &'a [Token]) -> Reading<'a, Boxed<Option<P4Param>>>
     ensures { Gives (λ x. (x.0, x.1.now)) result (last_param_at tokens.now) }
 {
     if is_next(Sign::Comma, tokens) {

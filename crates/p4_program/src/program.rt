@@ -5,10 +5,10 @@ ghost use Rattle.p4_grammar.specs.Trees.{program_place as program_place_of, decl
 ghost use Rattle.p4_grammar.specs.Reading.{declarations_at, instance_at, package_at, program_at, programs_of};
 ghost use Rattle.p4_part.specs.Made.{Gives};
 
-use p4_part::end::ReadEnd;
 use crate::control::ingress_of;
 use p4_ast::{P4Declaration, P4Name, P4Package, P4Parser, P4Program};
 use p4_lex::{Sign, Token};
+use p4_part::end::ReadEnd;
 use p4_part::token::{Reading, called_of, name_of, sign_of};
 use p4_part::typedefs::Typedefs;
 use p4_part::value::Made;

@@ -12,7 +12,9 @@ use p4_grammar::Spelled;
 use p4_lex::{Sign, Token};
 use p4_part::list::joined;
 use p4_part::name::names_of;
-use p4_part::token::{Finding, Reading, called_of, is_called_next, is_name_next, is_next, name_of, sign_of};
+use p4_part::token::{
+    Finding, Reading, called_of, is_called_next, is_name_next, is_next, name_of, sign_of,
+};
 use p4_part::typedefs::Typedefs;
 use p4_part::value::{Made, unary_value, without_mark};
 use sqlite_items::Items;

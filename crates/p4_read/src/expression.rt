@@ -8,10 +8,10 @@ ghost use Rattle.p4_ast.specs.declared.expression.P4BinaryOp.TheVariants as bina
 ghost use Rattle.p4_grammar.specs.ReadingExpressions.{sliced_at, named_at, plain_at, parens_at, cast_at, closed_at, open_at, unary_of_at, sum_rest_at, sum_at, compared_at, same_op_at, compare_rest_at, compare_at, and_rest_at, and_at, or_rest_at, choice_at, expr_rest_at, unary_at, expr_at, behind_at, expression_at};
 ghost use Rattle.p4_part.specs.Made.{Gives, choice_with};
 
-use p4_part::end::ReadEnd;
 use p4_ast::{P4BinaryOp, P4Expr, P4Name, P4Type};
 use p4_grammar::{Mark, Spelled};
 use p4_lex::{Sign, Token};
+use p4_part::end::ReadEnd;
 use p4_part::list::joined;
 use p4_part::name::{is_type_next, names_of, slice_of, type_named, word_type_of};
 use p4_part::operator::{

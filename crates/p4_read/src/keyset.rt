@@ -5,13 +5,13 @@ ghost use Rattle.p4_read.specs.Keysets.{tuple_end_at, masked_tuple_at, cast_keys
 ghost use Rattle.p4_grammar.specs.Reading.{any_at, masked_at, tuple_rest_at, one_behind_at, grouped_at, open_keyset_at, keyset_at};
 ghost use Rattle.p4_part.specs.Made.{Finds, Gives};
 
-use p4_part::end::ReadEnd;
 use crate::declaration::expression_of;
 use crate::expression::{behind_of, expr_of, parens_of, unary_of};
 use crate::part::{Part, parts_behind};
 use p4_ast::{P4Keyset, P4One};
 use p4_grammar::Spelled;
 use p4_lex::{Sign, Token};
+use p4_part::end::ReadEnd;
 use p4_part::list::pair;
 use p4_part::name::{is_type_next, word_type_of};
 use p4_part::token::{Finding, Reading, is_next, sign_of};

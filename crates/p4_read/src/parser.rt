@@ -8,9 +8,7 @@ ghost use Rattle.p4_part.specs.Made.{Gives};
 use crate::declaration::{expression_of, expressions_of};
 use crate::keyset::{boxed_keyset_of, keyset_place};
 use crate::part::{Part, parts_until};
-use p4_ast::{
-    P4Assign, P4Case, P4Extract, P4Name, P4Param, P4Parser, P4State, P4Step, P4Target,
-};
+use p4_ast::{P4Assign, P4Case, P4Extract, P4Name, P4Param, P4Parser, P4State, P4Step, P4Target};
 use p4_lex::{Sign, Token};
 use p4_part::list::joined;
 use p4_part::name::names_of;

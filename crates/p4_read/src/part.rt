@@ -5,8 +5,8 @@ ghost use Rattle.p4_grammar.specs.Tokens.{but, in_hand, words_at};
 ghost use Rattle.p4_lex.specs.declared.token.Sign.TheVariants as sign;
 ghost use Rattle.p4_part.specs.Made.{Gives};
 
-use p4_part::end::ReadEnd;
 use p4_lex::{Sign, Token};
+use p4_part::end::ReadEnd;
 use p4_part::token::{Reading, is_next, is_other_next, sign_of};
 use p4_part::typedefs::Typedefs;
 use sqlite_items::Items;

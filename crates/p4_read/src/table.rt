@@ -5,7 +5,6 @@ ghost use Rattle.p4_grammar.specs.Reading.{match_at, keys_at, acts_at, call_at, 
 ghost use Rattle.p4_read.specs.Tables.{default_behind_at, entries_behind_at, after_const_at};
 ghost use Rattle.p4_part.specs.Made.{Finds, Gives, Makes};
 
-use p4_part::end::ReadEnd;
 use crate::declaration::args_of;
 use crate::expression::expr_of;
 use crate::keyset::{boxed_keyset_of, keyset_place};
@@ -15,6 +14,7 @@ use p4_ast::{
 };
 use p4_grammar::Properties;
 use p4_lex::{Sign, Token};
+use p4_part::end::ReadEnd;
 use p4_part::token::{Finding, Reading, is_next, name_of, number_of, sign_of};
 use p4_part::typedefs::Typedefs;
 use p4_part::value::{Made, boxed, without_mark};
@@ -240,11 +240,7 @@ fn with_entries<'a>(
     boxed(alloc, a)
 }
 
-fn with_size<'a>(
-    alloc: Global,
-    a: Boxed<Properties>,
-    size: P4Size,
-) -> Made<'a, Boxed<Properties>>
+fn with_size<'a>(alloc: Global, a: Boxed<Properties>, size: P4Size) -> Made<'a, Boxed<Properties>>
     ensures { Makes result (with_size_of a size) }
 {
     let mut a = a.into_inner();
@@ -301,7 +297,9 @@ fn after_const_of<'a>(
 ) -> Reading<'a, Boxed<Properties>>
     ensures { Gives (λ x. (x.0, x.1.now)) result (after_const_at (is_none a.default) (is_none a.entries) (default_behind_at fuel env.now left a) (entries_behind_at fuel env.now left a) at tokens.now) }
 {
-    if a.get().default.is_none() && (a.get().entries.is_some() || is_next(Sign::DefaultAction, tokens)) {
+    if a.get().default.is_none()
+        && (a.get().entries.is_some() || is_next(Sign::DefaultAction, tokens))
+    {
         return default_behind_of(alloc, fuel, env, left, a, Some(at), tokens);
     }
     entries_behind_of(alloc, fuel, env, left, a, Some(at), tokens)

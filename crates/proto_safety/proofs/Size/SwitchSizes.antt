@@ -156,7 +156,6 @@ module _ (app : Application) (is : IsApplication app) (few : app.cell_count ≤ 
   held_sized : (s : Switch) (input : Input) (key : Key) (slot : Slot) (epoch : ℕ) (p : Packet) → Ready app s now input key slot epoch p → Slotted key slot → (epoch ≤ n + 1) × (length slot.cells ≡ app.cell_count)
   held_sized s input key slot epoch p r k = let held = ready_held r in held_slot (n + 1) app.cell_count key slot held.0 epoch held.1.0 held.1.1 k
 
-
   -- ---- rows
 
   asks_anew : (s : Switch) (key : Key) (slot : Slot) (p : Packet) → SwitchSized n app.cell_count terms s → app.key_of p ≡ Some key → slot.last ≤ n → LoadSized (n + 1) (Some (carried_packet p)) → Result (perform s now (NewAsk key slot p))
