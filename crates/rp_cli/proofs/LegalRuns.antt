@@ -7,7 +7,7 @@ use Rattle.rp_base.specs.Outside.{Grows, GrowsByFront}
 use Rattle.rp_base.specs.declared.event.Event.{Event}
 use Rattle.rp_frame.specs.Spelling.{kind, spelling}
 use Rattle.rp_world.specs.declared.world.Setup.{Setup}
-use Rattle.rp_world.specs.Running.{shown}
+use Rattle.rp_world.specs.AppWorld.{shown}
 use Rattle.proto_model.specs.EndLines.{report}
 use Rattle.proto_safety.proofs.Legality.ReportLegal.{reports_are_legal}
 use Rattle.sched_lang.specs.declared.schedule.Schedule.{Schedule}
@@ -87,6 +87,7 @@ begins_at old (Some (Runs program schedule)) contents = tt
 instead : (answer : Status) (words : List (List ℕ)) (contents : List ℕ → Option (List ℕ)) (old : Option (List ℕ)) → IsNoSchedule answer → IsLegalAfter answer (asked words contents) old old
 instead status.Done words contents old h = absurd h
 instead status.Usage words contents old h = tt
+instead (status.ProgramRefused at why) words contents old h = absurd h
 instead (status.ScheduleRefused line why) words contents old h = tt
 instead status.InputFault words contents old h = tt
 instead status.OutputFault words contents old h = absurd h

@@ -1,4 +1,5 @@
 pub mod Fronts
 pub mod Schedules
+pub mod Programs
 pub mod ReportTexts
 pub mod LegalRuns

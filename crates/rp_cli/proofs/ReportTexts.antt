@@ -15,7 +15,7 @@ use Rattle.proto_model.specs.WorldStep.{world_step, run_on}
 use Rattle.proto_model.specs.EndLines.{end_lines}
 use Rattle.rp_frame.specs.Spelling.{kind}
 use Rattle.rp_world.specs.declared.world.Setup.{Setup}
-use Rattle.rp_world.specs.Running.{line_of, shown, stepped}
+use Rattle.rp_world.specs.AppWorld.{line_of, shown, stepped}
 use Rattle.run_report.specs.Report.{NamesKind}
 use Rattle.rp_cli.specs.Reports.{line_written, lines_written, report_text, running_text, running_texts, unlinked}
 

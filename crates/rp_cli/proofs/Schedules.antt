@@ -7,7 +7,7 @@ use Rattle.sched_lang.specs.declared.schedule.Schedule.{Schedule}
 use Rattle.sched_lang.specs.Reading.{Fault, schedule_of}
 use Rattle.rp_cli.specs.declared.status.Status.{Status}
 use Rattle.rp_cli.specs.declared.status.Status.TheVariants as status
-use Rattle.rp_cli.specs.Top.{Loads, read_or_refused, schedule_in, program_in}
+use Rattle.rp_cli.specs.Top.{Loads, read_or_refused, schedule_in}
 
 -- the front that is loaded reads as the whole text
 pub schedule_of-front : (text : List ℕ) → schedule_of (take 4194305 text) ≡ schedule_of text
@@ -31,12 +31,3 @@ told_loaded (Some contents) name into r h k =
     let P : Option (List ℕ) → Type 0 = λ content. Loads r (schedule_in content) in
     let Q : Result Schedule Fault → Type 0 = λ read. Loads r (read_or_refused read) in
     subst P (sym h.1) (subst Q (ap schedule_of h.2 ∙ schedule_of-front h.0) k)
-
--- a program and a schedule that were both loaded are both there, where contents are told
-pub both_loaded : (told later : Option (List ℕ → Option (List ℕ))) (program schedule : List ℕ) (limit long : ℕ) (one other : List ℕ) → later ≡ told →
-    Loaded told program limit one → Loaded later schedule long other → IfSome told (λ contents. Loads (Err status.Usage) (Err (program_in (contents program) (contents schedule))))
-both_loaded told later program schedule limit long one other same h k = both_at told program schedule limit long one other h (subst (λ t. Loaded t schedule long other) same k) where
-  both_at : (told : Option (List ℕ → Option (List ℕ))) (program schedule : List ℕ) (limit long : ℕ) (one other : List ℕ) →
-      Loaded told program limit one → Loaded told schedule long other → IfSome told (λ contents. Loads (Err status.Usage) (Err (program_in (contents program) (contents schedule))))
-  both_at None program schedule limit long one other h k = tt
-  both_at (Some contents) program schedule limit long one other h k = rw (h.1, k.1) refl

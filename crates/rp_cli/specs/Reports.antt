@@ -8,7 +8,7 @@ use Rattle.proto_safety.specs.LegalLines.{LegalLines}
 use Rattle.proto_model.specs.World.{Setup as WorldSetup}
 use Rattle.proto_model.specs.EndLines.{report}
 use Rattle.rp_world.specs.declared.world.Setup.{Setup}
-use Rattle.rp_world.specs.Running.{shown}
+use Rattle.rp_world.specs.AppWorld.{shown}
 use Rattle.sched_lang.specs.declared.schedule.Schedule.{Schedule}
 use Rattle.run_report.specs.Report.{line_text, lines_text}
 

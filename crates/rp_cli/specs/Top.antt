@@ -3,6 +3,8 @@ use Rattle.std.specs.Prelude.{◌≡◌, ℕ, Bool, true, false, List, [], ◌�
 use Rattle.std.specs.Str.{bytes_eq}
 use Rattle.rp_base.specs.Outside.{Grows, GrowsByFront}
 use Rattle.rp_base.specs.declared.event.Event.{Event}
+use Rattle.rp_base.specs.declared.refused.Refused.{Refused}
+use Rattle.p4_checked.specs.Reading.{bad_text}
 use Rattle.sched_lang.specs.declared.schedule.Schedule.{Schedule}
 use Rattle.sched_lang.specs.Reading.{Fault, schedule_of}
 use Rattle.rp_cli.specs.declared.status.Status.{Status}
@@ -48,11 +50,16 @@ abbrev pub schedule_in : Option (List ℕ) → Result Schedule Status
 schedule_in None = Err status.InputFault
 schedule_in (Some text) = read_or_refused (schedule_of text)
 
--- the answer of a program's content and a schedule's: both must be there, and programs don't run yet
+-- the answer of a program that is refused so or not at all, and of a schedule's content: that must be there, and programs don't run yet
+abbrev pub judged : Option Refused → Option (List ℕ) → Status
+judged (Some refused) schedule = status.ProgramRefused refused.at refused.why
+judged None None = status.InputFault
+judged None (Some text) = status.Usage
+
+-- the answer of a program's content, if it is there, and of a schedule's
 abbrev pub program_in : Option (List ℕ) → Option (List ℕ) → Status
 program_in None schedule = status.InputFault
-program_in (Some program) None = status.InputFault
-program_in (Some program) (Some schedule) = status.Usage
+program_in (Some program) schedule = judged (bad_text program) schedule
 
 abbrev pub asked_at : Option Command → (List ℕ → Option (List ℕ)) → Result Schedule Status
 asked_at None contents = Err status.Usage
@@ -84,12 +91,14 @@ outcome words contents = reported_or (shows_frames (form_of words)) (asked words
 abbrev pub Answers : Status → Result (List ℕ) Status → Option (List ℕ) → Option (List ℕ) → Type 0
 Answers status.Done (Ok text) old new = Grows old new text
 Answers status.Usage (Ok text) old new = ⊥
+Answers (status.ProgramRefused at why) (Ok text) old new = ⊥
 Answers (status.ScheduleRefused line why) (Ok text) old new = ⊥
 Answers status.InputFault (Ok text) old new = Grows old new []
 Answers status.OutputFault (Ok text) old new = GrowsByFront old new text
 Answers status.NoMemory (Ok text) old new = GrowsByFront old new text
 Answers status.Done (Err answer) old new = ⊥
 Answers status.Usage (Err answer) old new = (answer ≡ status.Usage) × Grows old new []
+Answers (status.ProgramRefused at why) (Err answer) old new = (answer ≡ status.ProgramRefused at why) × Grows old new []
 Answers (status.ScheduleRefused line why) (Err answer) old new = (answer ≡ status.ScheduleRefused line why) × Grows old new []
 Answers status.InputFault (Err answer) old new = Grows old new []
 Answers status.OutputFault (Err answer) old new = ⊥
@@ -99,6 +108,7 @@ Answers status.NoMemory (Err answer) old new = Grows old new []
 abbrev pub IsBeforeRun : Status → Type 0
 IsBeforeRun status.Done = ⊥
 IsBeforeRun status.Usage = Unit {0}
+IsBeforeRun (status.ProgramRefused at why) = Unit {0}
 IsBeforeRun (status.ScheduleRefused line why) = Unit {0}
 IsBeforeRun status.InputFault = Unit {0}
 IsBeforeRun status.OutputFault = ⊥
@@ -108,6 +118,7 @@ IsBeforeRun status.NoMemory = ⊥
 abbrev pub IsDoneOrNoMemory : Status → Type 0
 IsDoneOrNoMemory status.Done = Unit {0}
 IsDoneOrNoMemory status.Usage = ⊥
+IsDoneOrNoMemory (status.ProgramRefused at why) = ⊥
 IsDoneOrNoMemory (status.ScheduleRefused line why) = ⊥
 IsDoneOrNoMemory status.InputFault = ⊥
 IsDoneOrNoMemory status.OutputFault = ⊥
@@ -118,10 +129,22 @@ abbrev pub Loads : Result Schedule Status → Result Schedule Status → Type 0
 Loads (Ok s) expected = expected ≡ Ok s
 Loads (Err status.Done) expected = ⊥
 Loads (Err status.Usage) expected = expected ≡ Err status.Usage
+Loads (Err (status.ProgramRefused at why)) expected = expected ≡ Err (status.ProgramRefused at why)
 Loads (Err (status.ScheduleRefused line why)) expected = expected ≡ Err (status.ScheduleRefused line why)
 Loads (Err status.InputFault) expected = Unit {0}
 Loads (Err status.OutputFault) expected = ⊥
 Loads (Err status.NoMemory) expected = Unit {0}
+
+-- A program was accepted, or the answer in its place is the right one.
+abbrev pub Accepts : Result (Unit {0}) Status → Option Refused → Type 0
+Accepts (Ok accepted) bad = bad ≡ None
+Accepts (Err status.Done) bad = ⊥
+Accepts (Err status.Usage) bad = ⊥
+Accepts (Err (status.ProgramRefused at why)) bad = bad ≡ Some (record { at = at; why = why })
+Accepts (Err (status.ScheduleRefused line why)) bad = ⊥
+Accepts (Err status.InputFault) bad = ⊥
+Accepts (Err status.OutputFault) bad = ⊥
+Accepts (Err status.NoMemory) bad = Unit {0}
 
 -- There is a schedule, and this holds of it.
 abbrev pub IsOkWith : (Schedule → Type 0) → Result Schedule Status → Type 0
@@ -141,6 +164,7 @@ BeginsLegal events old new = (text : List ℕ) × (IsLegalText events text × Gr
 abbrev pub IsLegalAfter : Status → Result Schedule Status → Option (List ℕ) → Option (List ℕ) → Type 0
 IsLegalAfter status.Done asked old new = IsOkWith (λ (s : Schedule). WritesLegal s.events old new) asked
 IsLegalAfter status.Usage asked old new = Unit {0}
+IsLegalAfter (status.ProgramRefused at why) asked old new = Unit {0}
 IsLegalAfter (status.ScheduleRefused line why) asked old new = Unit {0}
 IsLegalAfter status.InputFault asked old new = Unit {0}
 IsLegalAfter status.OutputFault asked old new = IsOkWith (λ (s : Schedule). BeginsLegal s.events old new) asked
@@ -150,6 +174,7 @@ IsLegalAfter status.NoMemory asked old new = IfOk asked (λ (s : Schedule). Begi
 abbrev pub IsNoSchedule : Status → Type 0
 IsNoSchedule status.Done = ⊥
 IsNoSchedule status.Usage = ⊥
+IsNoSchedule (status.ProgramRefused at why) = ⊥
 IsNoSchedule (status.ScheduleRefused line why) = Unit {0}
 IsNoSchedule status.InputFault = Unit {0}
 IsNoSchedule status.OutputFault = ⊥
@@ -159,6 +184,7 @@ IsNoSchedule status.NoMemory = Unit {0}
 abbrev pub IsNoProgram : Status → Type 0
 IsNoProgram status.Done = ⊥
 IsNoProgram status.Usage = Unit {0}
+IsNoProgram (status.ProgramRefused at why) = Unit {0}
 IsNoProgram (status.ScheduleRefused line why) = ⊥
 IsNoProgram status.InputFault = Unit {0}
 IsNoProgram status.OutputFault = ⊥
@@ -174,6 +200,7 @@ IsAnswerTo (Some (Runs program schedule)) answer = IsNoProgram answer
 abbrev pub number_of : Status → ℕ
 number_of status.Done = 0
 number_of status.Usage = 1
+number_of (status.ProgramRefused at why) = 2
 number_of (status.ScheduleRefused line why) = 3
 number_of status.InputFault = 4
 number_of status.OutputFault = 5

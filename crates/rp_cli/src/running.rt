@@ -1,7 +1,7 @@
 //! A run, whose lines are written as they come.
 ghost use Rattle.std.specs.Prelude.{◌≡◌, ◌≤◌, All, length, OnOk, OnErr};
 ghost use Rattle.rp_base.specs.Outside.{Grows, GrowsByFront, HasCause};
-ghost use Rattle.rp_world.specs.Running.{IsSetup, IsEvent};
+ghost use Rattle.rp_world.specs.AppWorld.{IsSetup, IsEvent};
 ghost use Rattle.run_report.specs.Report.{NamesKind};
 ghost use Rattle.rp_cli.specs.Reports.{report_text, running_text, running_texts};
 

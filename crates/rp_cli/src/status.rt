@@ -1,8 +1,9 @@
 //! How the program ends: its exit status, and its line on standard error.
 ghost use Rattle.std.specs.Prelude.{◌≡◌, Some, OnOk};
 ghost use Rattle.std.specs.Io.KnownBytes.{Appends};
-ghost use Rattle.rp_cli.specs.Telling.{status_line, status_text, why_text};
+ghost use Rattle.rp_cli.specs.Telling.{cause_text, status_line, status_text, why_text};
 
+use rp_base::Why;
 use sched_lang::SchedWhy;
 use std::io::Write;
 use std::process::ExitCode;
@@ -15,6 +16,8 @@ pub enum Status {
     Done,
     /// The words have no form, or ask for a program: programs don't run yet.
     Usage,
+    /// The least place at which the program fails, the offset of a byte from 0, and the first cause there.
+    ProgramRefused { at: u64, why: Why },
     /// The first line of the schedule that fails, from 1, and why. The whole text has line 0.
     ScheduleRefused { line: u64, why: SchedWhy },
     /// The inputs have counted a fault.
@@ -36,6 +39,7 @@ impl Status {
         match self {
             Status::Done => 0,
             Status::Usage => 1,
+            Status::ProgramRefused { .. } => 2,
             Status::ScheduleRefused { .. } => 3,
             Status::InputFault => 4,
             Status::OutputFault => 5,
@@ -48,6 +52,31 @@ impl Status {
         ensures { exit_status result ≡ number_of self.now }
     {
         ExitCode::from(self.number())
+    }
+}
+
+// The name of the cause for which a program is refused.
+fn cause_name(why: Why) -> &'static str
+    ensures { result.now ≡ cause_text why }
+{
+    match why {
+        Why::BadByte => "BadByte",
+        Why::BadNumber => "BadNumber",
+        Why::OpenComment => "OpenComment",
+        Why::Directive => "Directive",
+        Why::TooLong => "TooLong",
+        Why::Deep => "Deep",
+        Why::Mixed => "Mixed",
+        Why::Unexpected => "Unexpected",
+        Why::Unknown => "Unknown",
+        Why::Twice => "Twice",
+        Why::Kind => "Kind",
+        Why::Width => "Width",
+        Why::Fit => "Fit",
+        Why::Cycle => "Cycle",
+        Why::Key => "Key",
+        Why::Cells => "Cells",
+        Why::Entry => "Entry",
     }
 }
 
@@ -75,6 +104,10 @@ impl fmt::Display for Status {
         match *self {
             Status::Done => f.write_str("done"),
             Status::Usage => f.write_str("usage"),
+            Status::ProgramRefused { at, why } => {
+                let name = cause_name(why);
+                write!(f, "program {at} {name}")
+            }
             Status::ScheduleRefused { line, why } => {
                 let name = why_name(why);
                 write!(f, "schedule {line} {name}")

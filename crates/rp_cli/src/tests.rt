@@ -3,7 +3,7 @@ use crate::top::rp_main;
 use host_io::FileInputs;
 use rp_base::{
     Bytes, Content, Kept, ListClock, MemInputs, MemSink, NoMemory, Post, SureInputs, SureLink,
-    SureSink, Words,
+    SureSink, Why, Words,
 };
 use sched_lang::SchedWhy;
 use std::alloc::Global;
@@ -40,6 +40,35 @@ const CLEAN_PACKETS_REPORT: &[u8] = b"release 5 1 7 00000000000000016121\n\
 const EQUAL_TERMS: &[u8] =
     b"rp-schedule 1\nswitches 1\nchain 1\nlease 200 200\nratio 5\nmode strict\n";
 
+// How a text is refused that doesn't begin as a program.
+const NO_PROGRAM: Status = Status::ProgramRefused {
+    at: 0,
+    why: Why::Unexpected,
+};
+
+// What stands before the apply block of a counter of one cell, by a byte of its header.
+const DECLARED: &[u8] = b"header h_t { bit<8> k; }\n\
+    struct hs { h_t h; }\n\
+    struct ms { bit<8> x; }\n\
+    parser P(packet_in p, out hs h, inout ms m, inout std_t std) {\n\
+    state start { p.extract(h.h); transition accept; }\n\
+    }\n\
+    control I(inout hs h, inout ms m, inout std_t std) {\n\
+    FlowCell<bit<8>>() c;\n";
+
+// Its apply block.
+const COUNTS: &[u8] = b"apply { flow_key(h.h.k); m.x = c.read(); c.write(m.x + 1); \
+    h.h.k = m.x; std.out_port = std.in_port; }\n";
+
+// One that reads the cell before the flow's key is known.
+const READS_FIRST: &[u8] = b"apply { m.x = c.read(); flow_key(h.h.k); c.write(m.x + 1); \
+    h.h.k = m.x; std.out_port = std.in_port; }\n";
+
+// What stands behind it.
+const DEPARSED: &[u8] = b"}\n\
+    control D(packet_out p, in hs h) { apply { p.emit(h.h); } }\n\
+    RpSwitch(P(), I(), D()) main;\n";
+
 fn bytes(alloc: Global, parts: &[&[u8]]) -> Result<Bytes, NoMemory> {
     let mut made = Bytes::new(alloc);
     for part in parts {
@@ -66,9 +95,13 @@ fn words(alloc: Global, line: &[u8]) -> Result<Words, NoMemory> {
     Ok(made)
 }
 
-// The contents of inputs whose one name is `x`.
-fn contents(alloc: Global, schedule: Bytes) -> Result<Vec<Content>, NoMemory> {
+// The contents of inputs with a program `app` and a schedule `x`.
+fn contents(alloc: Global, program: Bytes, schedule: Bytes) -> Result<Vec<Content>, NoMemory> {
     let mut contents = Vec::new(alloc);
+    contents.push(Content {
+        name: bytes(alloc, &[b"app"])?,
+        bytes: program,
+    })?;
     contents.push(Content {
         name: bytes(alloc, &[b"x"])?,
         bytes: schedule,
@@ -90,7 +123,11 @@ fn clock(alloc: Global) -> Result<ListClock, Fail> {
 fn surely(alloc: Global, line: &[u8], schedule: Bytes) -> Result<(Status, Vec<u8>), Fail> {
     let words = words(alloc, line)?;
     let mut inputs = SureInputs {
-        contents: contents(alloc, schedule)?,
+        contents: contents(
+            alloc,
+            bytes(alloc, &[DECLARED, COUNTS, DEPARSED])?,
+            schedule,
+        )?,
     };
     let mut out = SureSink {
         kept: Kept::with_room(alloc, 10000)?,
@@ -161,10 +198,11 @@ fn refusals_write_nothing(rt: HostRuntime) -> Result<(), Fail> {
         line: 1,
         why: SchedWhy::Form,
     };
-    let rows: [(&[u8], &[u8], &[u8], Status); 9] = [
+    let rows: [(&[u8], &[u8], &[u8], Status); 10] = [
         (b"", HEADER, ONE_PACKET, Status::Usage),
         (b"run @count", HEADER, ONE_PACKET, Status::Usage),
         (b"run app x", HEADER, ONE_PACKET, Status::Usage),
+        (b"run x x", HEADER, ONE_PACKET, NO_PROGRAM),
         (b"run @count x x", HEADER, ONE_PACKET, Status::Usage),
         (b"run @count --frames x", HEADER, ONE_PACKET, Status::Usage),
         (
@@ -186,11 +224,46 @@ fn refusals_write_nothing(rt: HostRuntime) -> Result<(), Fail> {
     Ok(())
 }
 
+// A program's refusal comes before its schedule is loaded: there is none of this name.
+#[test]
+fn programs_are_refused_first(rt: HostRuntime) -> Result<(), Fail> {
+    let alloc = rt.alloc();
+    let rows: [([&[u8]; 3], &[u8]); 7] = [
+        ([b"", b"", b""], b"rp: program 0 Unexpected\n"),
+        ([b"\"core\"", b"", b""], b"rp: program 0 BadByte\n"),
+        ([b"/*", b"", b""], b"rp: program 0 OpenComment\n"),
+        ([b"const bit<8>= 3;", b"", b""], b"rp: program 11 Mixed\n"),
+        ([b"if if if if if", b"", b""], b"rp: program 12 Deep\n"),
+        ([DECLARED, READS_FIRST, DEPARSED], b"rp: program 269 Key\n"),
+        ([DECLARED, COUNTS, DEPARSED], b"rp: input fault\n"),
+    ];
+    for (program, wanted) in rows {
+        let words = words(alloc, b"run app nofile")?;
+        let mut inputs = MemInputs {
+            contents: contents(alloc, bytes(alloc, &program)?, Bytes::new(alloc))?,
+            failing: Vec::new(alloc),
+            calls: 0,
+            faults: 0,
+        };
+        let mut out = SureSink {
+            kept: Kept::with_room(alloc, 10000)?,
+        };
+        let mut link = link(alloc);
+        let mut clock = clock(alloc)?;
+        let status = rp_main(alloc, &words, &mut inputs, &mut out, &mut link, &mut clock);
+        let mut told = Vec::new(alloc);
+        tell(status, &mut told)?;
+        assert_eq!(rt; told.as_slice(), wanted);
+        assert_eq!(rt; out.kept.bytes.len(), 0);
+    }
+    Ok(())
+}
+
 #[test]
 fn faults_end_the_run(rt: HostRuntime) -> Result<(), Fail> {
     let alloc = rt.alloc();
     // the words, the call at which the sink fails, what comes of it, and how many contents were asked for
-    let rows: [(&[u8], u64, Status, &[u8], u64); 7] = [
+    let rows: [(&[u8], u64, Status, &[u8], u64); 8] = [
         (b"run @count x", 9, Status::Done, ONE_PACKET_REPORT, 1),
         (
             b"run @count x",
@@ -201,14 +274,19 @@ fn faults_end_the_run(rt: HostRuntime) -> Result<(), Fail> {
         ),
         (b"run @count nofile", 9, Status::InputFault, b"", 1),
         (b"run nofile x", 9, Status::InputFault, b"", 1),
-        (b"run x nofile", 9, Status::InputFault, b"", 2),
+        (b"run app nofile", 9, Status::InputFault, b"", 2),
+        (b"run x nofile", 9, NO_PROGRAM, b"", 1),
         (b"run nofile nofile", 9, Status::InputFault, b"", 1),
-        (b"run x x", 9, Status::Usage, b"", 2),
+        (b"run app x", 9, Status::Usage, b"", 2),
     ];
     for (line, call, wanted, text, asked) in rows {
         let words = words(alloc, line)?;
         let mut inputs = MemInputs {
-            contents: contents(alloc, bytes(alloc, &[HEADER, ONE_PACKET])?)?,
+            contents: contents(
+                alloc,
+                bytes(alloc, &[DECLARED, COUNTS, DEPARSED])?,
+                bytes(alloc, &[HEADER, ONE_PACKET])?,
+            )?,
             failing: Vec::new(alloc),
             calls: 0,
             faults: 0,

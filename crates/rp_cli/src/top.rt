@@ -1,18 +1,21 @@
 //! The top call: what the program does over any inputs, sink, link and clock.
 ghost use Rattle.std.specs.Prelude.{◌≡◌, ◌≤◌, [], None, Some, Err, IfSome, IfOk, IfErr, IsOk, IsErrOf, drop, option_map};
 ghost use Rattle.rp_base.specs.Outside.{Grows, Rose};
-ghost use Rattle.rp_world.specs.Running.{IsSetup};
+ghost use Rattle.rp_world.specs.AppWorld.{IsSetup};
 ghost use Rattle.sched_lang.specs.Reading.{schedule_of};
 ghost use Rattle.sched_lang.specs.Ready.{IsReady};
 ghost use Rattle.rp_cli.specs.Reports.{setup_of as setup_for};
 ghost use Rattle.rp_cli.specs.Seen.{seen};
-ghost use Rattle.rp_cli.specs.Top.{form_of, frames_by, asked, outcome, read_or_refused, schedule_in, program_in, Answers, Loads, IsLegalAfter, IsAnswerTo, IsBeforeRun, IsNoSchedule, IsNoProgram, IsDoneOrNoMemory};
+ghost use Rattle.p4_checked.specs.Reading.{bad_text};
+ghost use Rattle.rp_cli.specs.Top.{form_of, frames_by, asked, outcome, read_or_refused, schedule_in, program_in, judged, Accepts, Answers, Loads, IsLegalAfter, IsAnswerTo, IsBeforeRun, IsNoSchedule, IsNoProgram, IsDoneOrNoMemory};
 
 use crate::running::{Stop, write_report};
 use crate::status::Status;
+use p4_check::CheckEnd;
+use p4_checked::checked_text;
 use proto_data::{Mode, Terms};
 use rp_app::CountApp;
-use rp_base::{Bytes, Clock, InputEnd, Inputs, Link, Sink, Words};
+use rp_base::{Bytes, Clock, InputEnd, Inputs, Link, Refused, Sink, Words};
 use rp_world::Setup;
 use sched_lang::{SchedEnd, Schedule};
 use std::alloc::Global;
@@ -59,7 +62,35 @@ fn command_of(words: &Words) -> Option<Command<'_>>
     }
 }
 
-// The answer where a program is asked for: its file is loaded, and then the schedule's; programs don't run yet.
+// Reads and checks a program.
+fn accept(alloc: Global, text: &Bytes) -> Result<(), Status>
+    ensures exact { Accepts result (bad_text text.now) }
+{
+    match checked_text(alloc, text.as_slice()) {
+        Ok(_) => Ok(()),
+        Err(CheckEnd::Refused(Refused { at, why })) => Err(Status::ProgramRefused { at, why }),
+        Err(CheckEnd::NoMemory) => Err(Status::NoMemory),
+    }
+}
+
+// The answer for an accepted program: its schedule must be there, and programs don't run yet.
+fn accepted<I: Inputs>(alloc: Global, schedule: &[u8], inputs: &mut I) -> Status
+    ensures told { IfSome (I.contents inputs.old) (λ contents.
+        Loads (Err result) (Err (judged None (contents schedule.now)))) }
+    ensures ends { IsNoProgram result }
+    ensures contents { I.contents inputs.new ≡ I.contents inputs.old }
+    ensures count { I.faults inputs.old ≤ I.faults inputs.new }
+    ensures input { result ≡ Status.InputFault → Rose (I.faults inputs.old) (I.faults inputs.new) }
+{
+    let mut text = Bytes::new(alloc);
+    match inputs.load(schedule, SCHEDULE_LIMIT, &mut text) {
+        Ok(()) => Status::Usage,
+        Err(InputEnd::Failed) => Status::InputFault,
+        Err(InputEnd::NoMemory) => Status::NoMemory,
+    }
+}
+
+// The answer where a program is asked for: it is loaded, read and checked, and then the schedule is loaded.
 fn unbuilt<I: Inputs>(alloc: Global, program: &[u8], schedule: &[u8], inputs: &mut I) -> Status
     ensures told { IfSome (I.contents inputs.old) (λ contents.
         Loads (Err result) (Err (program_in (contents program.now) (contents schedule.now)))) }
@@ -70,10 +101,9 @@ fn unbuilt<I: Inputs>(alloc: Global, program: &[u8], schedule: &[u8], inputs: &m
 {
     let mut text = Bytes::new(alloc);
     match inputs.load(program, PROGRAM_LIMIT, &mut text) {
-        Ok(()) => match inputs.load(schedule, SCHEDULE_LIMIT, &mut text) {
-            Ok(()) => Status::Usage,
-            Err(InputEnd::Failed) => Status::InputFault,
-            Err(InputEnd::NoMemory) => Status::NoMemory,
+        Ok(()) => match accept(alloc, &text) {
+            Ok(()) => accepted(alloc, schedule, inputs),
+            Err(status) => status,
         },
         Err(InputEnd::Failed) => Status::InputFault,
         Err(InputEnd::NoMemory) => Status::NoMemory,

@@ -16,7 +16,7 @@ use Rattle.proto_model.specs.ReplicaState.{Replica}
 use Rattle.proto_model.specs.SwitchState.{Switch}
 use Rattle.proto_model.specs.World.{World, History}
 use Rattle.rp_world.specs.OneEach.{one_each, IsSound}
-use Rattle.rp_world.specs.Running.{shown}
+use Rattle.rp_world.specs.AppWorld.{shown}
 use Rattle.rp_world.specs.Endings.{noted, flow_shown, closing_shown, serial_in}
 use Rattle.rp_world.proofs.NotesKept.{noted_of}
 use Rattle.rp_world.proofs.FlowSerials.{serial-same}

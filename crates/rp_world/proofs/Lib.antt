@@ -1,7 +1,5 @@
 pub mod SwitchRings
-pub mod Stored
 pub mod Worlds
-pub mod EachOf
 pub mod SwitchSound
 pub mod ShownLines
 pub mod StoreSound

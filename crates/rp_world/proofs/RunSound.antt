@@ -7,7 +7,7 @@ use Rattle.proto_model.specs.Records.{Booked}
 use Rattle.proto_model.specs.ReplicaState.{Replica, StoreStep}
 use Rattle.proto_model.specs.SwitchState.{Switch, SwitchStep}
 use Rattle.rp_world.specs.OneEach.{IsRouted, IsSoundReplica, IsSoundRun}
-use Rattle.rp_world.proofs.EachOf.{each_append}
+use Rattle.proto_safety.proofs.Basics.Eachs.{each_append}
 use Rattle.rp_world.proofs.SwitchSound.{switch-later, IsSoundStep}
 use Rattle.rp_world.proofs.StoreSound.{IsSoundStore}
 

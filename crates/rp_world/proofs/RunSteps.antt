@@ -19,17 +19,22 @@ use Rattle.proto_model.specs.SwitchState.{Switch, SwitchDid, SwitchStep}
 use Rattle.proto_model.specs.World.{World, History}
 use Rattle.proto_model.specs.WorldStep.{WorldStep, world_step}
 use Rattle.rp_world.specs.OneEach.{one_each, IsSound, IsSoundRun, IsGoing}
+use Rattle.store_replica.specs.Stores.{Running as Stepping, stepped as called}
 use Rattle.proto_safety.specs.Frames.{Grows}
 use Rattle.proto_safety.proofs.Messages.FramesGrow.{event_grows}
 use Rattle.proto_safety.specs.Sizes.{EventSized, Sized}
 use Rattle.rp_world.specs.Frames.{IsSendable}
-use Rattle.rp_world.specs.Running.{shown, stepped}
+use Rattle.rp_world.specs.AppWorld.{shown, stepped}
 use Rattle.proto_safety.proofs.Size.WorldSizes.{event_sized}
 use Rattle.rp_world.proofs.SentSizes.{sent-sendable}
 use Rattle.rp_world.proofs.Worlds.{after_switch, after_store}
 use Rattle.rp_world.proofs.RunSound.{sound-refused, sound-switch, sound-store}
 use Rattle.rp_world.proofs.SwitchSound.{IsSoundStep}
 use Rattle.rp_world.proofs.StoreSound.{IsSoundStore}
+
+-- a call of the replica's crate is a step of the replica
+pub replica_step : (old new : Stepping) (did : StoreDid) (now : ℕ) (input : Input) → (new, did) ≡ called old now input → (new.replica, did) ≡ store_step old.replica now input
+replica_step old new did now input is = ap (λ (x : Stepping × StoreDid). (x.0.replica, x.1)) is
 
 module _ (app : Application) (terms : Terms) (s : Switch) (r : Replica) (book : List Booked) (frames : List Msg) (passed event : ℕ) (h : History) where
   abbrev w : World

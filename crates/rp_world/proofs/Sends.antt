@@ -3,7 +3,7 @@ use Rattle.std.proofs.Common.{◌≡◌, ℕ, suc, ◌+◌, ◌<◌, List, [], �
 use Rattle.rp_base.specs.declared.line.Line.{Line as Shown}
 use Rattle.proto_data.specs.declared.message.Msg.{Msg}
 use Rattle.proto_model.specs.Lines.{send_line, send_lines}
-use Rattle.rp_world.specs.Running.{shown, line_of}
+use Rattle.rp_world.specs.AppWorld.{shown, line_of}
 use Rattle.rp_world.proofs.NoteSteps.{next_item}
 use Rattle.rp_world.proofs.ShownLines.{shown-both}
 

@@ -6,7 +6,7 @@ use Rattle.proto_model.specs.Effects.{added, release_line, switch_lines, store_l
 use Rattle.proto_model.specs.Lines.{Line, Dropped, LostLine, send_lines}
 use Rattle.proto_model.specs.ReplicaState.{StoreDid}
 use Rattle.proto_model.specs.SwitchState.{SwitchDid}
-use Rattle.rp_world.specs.Running.{shown, line_of}
+use Rattle.rp_world.specs.AppWorld.{shown, line_of}
 
 -- what is shown of lines is shown of one part and of the other
 pub shown-both : (ls ms : List Line) → shown (ls ++ ms) ≡ shown ls ++ shown ms

@@ -19,23 +19,9 @@ use Rattle.proto_model.specs.ReplicaState.{Replica, StoreStep, record_at, is_mem
 use Rattle.proto_model.specs.ReplicaRows.{StoreRow, Loses, Answers, Echoes, Appends, Gathers, AppendsSnap, Commits, Adopts, Resends, busy, switch_of, is_later, own_ask_row, other_ask_row, ask_row, numbered_row, put_row, echoed_row, covered, at_head, store_message_row, with_entry, owner_answer, entry_key, tail_appended, appended_as, appended, store_perform, store_step}
 use Rattle.proto_model.specs.Effects.{added}
 use Rattle.rp_world.specs.OneEach.{IsForSwitch, IsRequest, IsRouted, IsSoundReplica}
-use Rattle.rp_world.specs.Store.{IsForOne}
-use Rattle.rp_world.proofs.EachOf.{each_put, each_get, each_append}
+use Rattle.proto_safety.proofs.Basics.Eachs.{each_append}
+use Rattle.proto_safety.proofs.Size.SizesOf.{each_put, each_get}
 use Rattle.proto_data.specs.declared.limits.TheConstants.{RECORDS, PENDING}
-
--- a request is for a replica that is head and tail
-pub request_for_one : (body : Body) → IsRequest body → IsForOne body
-request_for_one (Body.Ask inc nonce key load) is = tt
-request_for_one (Body.Put inc epoch number key delta load) is = tt
-request_for_one (Body.Grant inc nonce epoch key cells load) is = tt
-request_for_one (Body.Busy inc nonce key mark) is = tt
-request_for_one (Body.Ack inc epoch upto key load) is = tt
-request_for_one (Body.Deny inc epoch key) is = tt
-request_for_one (Body.Forward config index entry load) is = is
-request_for_one (Body.Have index) is = tt
-request_for_one (Body.Echo of load) is = tt
-request_for_one (Body.Config config) is = is
-request_for_one (Body.Snap inc epoch round key chunk chunks cells) is = is
 
 -- an entry for the one switch
 abbrev IsOwn : Entry → Type 0
@@ -164,12 +150,12 @@ module _ (count turns : ℕ) (s : Replica) (book : List Booked) (sound : IsSound
   IsOwned r = r.switch ≡ 0
 
   owners_after : (entry : Entry) → IsOwn entry → AllByRecursion (λ (e : Key × Record). IsOwned e.1) (applied s.cell_count s.records entry 0)
-  owners_after (Entry.Grant key epoch switch inc nonce) h = each_put IsOwned s.records key _ sound.owners h
+  owners_after (Entry.Grant key epoch switch inc nonce) h = each_put (λ k r. IsOwned r) s.records key _ h sound.owners
   owners_after (Entry.Put key epoch number delta) h = by (get s.records key) refl
     where
       by : (o : Option Record) → get s.records key ≡ o → AllByRecursion (λ (e : Key × Record). IsOwned e.1) (put_applied s.records key number delta 0 o)
       by None is = sound.owners
-      by (Some r) is = each_put IsOwned s.records key _ sound.owners (each_get IsOwned s.records key r sound.owners is)
+      by (Some r) is = each_put (λ k r. IsOwned r) s.records key _ (each_get (λ k r. IsOwned r) s.records key r is sound.owners) sound.owners
   owners_after (Entry.Snap key epoch round cells) h = absurd h
 
   records_after : (b : Booked) → applied s.cell_count s.records b.entry b.moment ≡ records_of count (book ++ b ∷ [])
@@ -182,7 +168,7 @@ module _ (count turns : ℕ) (s : Replica) (book : List Booked) (sound : IsSound
   answer_after entry load h None is = tt
   answer_after (Entry.Grant key epoch switch inc nonce) load h (Some r) is = ((h, tt), tt)
   answer_after (Entry.Put key epoch number delta) load h (Some r) is =
-      ((each_get IsOwned (applied s.cell_count s.records (Entry.Put key epoch number delta) 0) key r (owners_after (Entry.Put key epoch number delta) tt) is, tt), tt)
+      ((each_get (λ k r. IsOwned r) (applied s.cell_count s.records (Entry.Put key epoch number delta) 0) key r is (owners_after (Entry.Put key epoch number delta) tt), tt), tt)
   answer_after (Entry.Snap key epoch round cells) load h (Some r) is = absurd h
 
   -- a replica with its book after a step, with what it sent

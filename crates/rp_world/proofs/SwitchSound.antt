@@ -2,27 +2,31 @@
 use Rattle.std.proofs.Common.{◌≡◌, ℕ, ◌+◌, ◌^◌, ◌≤◌, List, [], Option, Some, None, refl, ap, ◌∙◌, true, false, Bool, length, arith, eqb-true}
 use Rattle.std.specs.Prelude.{if◌then◌else◌, nat_le, nat_lt, ◌==◌, ◌&&◌, not}
 use Rattle.std.specs.List.{AllByRecursion}
-use Rattle.std.proofs.lemmas.Bool.{and_parts}
+use Rattle.std.proofs.lemmas.Bool.{and_parts, false≢true}
 use Rattle.rp_base.specs.declared.node.Node.{Node}
 use Rattle.rp_base.specs.declared.node.Packet.{Packet}
 use Rattle.rp_base.specs.declared.event.DropCause.{DropCause}
-use Rattle.rp_app.specs.Application.{Application}
+use Rattle.rp_app.specs.Application.{Application, Delta, written as written_cells}
 use Rattle.proto_data.specs.declared.message.Body.{Body}
 use Rattle.proto_data.specs.declared.message.Carried.{Carried}
 use Rattle.proto_data.specs.declared.message.Input.{Input}
 use Rattle.proto_data.specs.Carrying.{packet_of}
 use Rattle.proto_model.specs.Ring.{remembers}
-use Rattle.proto_model.specs.Slot.{Lease, Slot, Idle, Asking, Held, Lapsed, lapsed_lease, extended, is_young, fresh_slot}
+use Rattle.proto_model.specs.Slot.{Lease, Slot, Idle, Asking, Held, Lapsed, lapsed_slot, extended, is_young, fresh_slot}
 use Rattle.proto_model.specs.SwitchState.{Switch, SwitchStep, Copy, lapsed, slot_at, has_copies, head_node, with_slot}
 use Rattle.proto_model.specs.SwitchRow.{SwitchRow, Keyless, NoRoom, NewAsk, AskAgain, Drops, Direct, Mirrored, Granted, Late, Acked, RoundDone, Denied, Busied, Adopts, Resends, Stale, processed, leased_row, keyed_row, packet_row, carried_row, granted, without_asked, asked_mark, grant_row, has_epoch, ack_row, busy_row, at_slot, message_row, switch_row, is_clean}
 use Rattle.proto_model.specs.SwitchOutcomes.{perform, acked_lease, idled}
 use Rattle.proto_model.specs.SwitchRows.{switch_step}
 use Rattle.std.proofs.lemmas.List.Elements.{All-from_recursion}
-use Rattle.rp_world.specs.Steady.{IsSteadyLease, IsSteadySlot, IsSteady}
+use Rattle.rp_world.specs.Steady.{AskedBy, IsSteadySlot, IsSteady}
 use Rattle.rp_world.specs.OneEach.{IsForSwitch, IsRequest, IsRoutedTo, IsRouted, IsSoundSwitch}
 use Rattle.rp_world.specs.SoundRows.{IsSoundRow}
 use Rattle.key_table.specs.Table.{put}
-use Rattle.rp_world.proofs.EachOf.{each_map, each_weaker, each_append, each_filter, each_put, each_get}
+use Rattle.proto_safety.proofs.Basics.Eachs.{each_weaker, each_append, each_filter}
+use Rattle.proto_safety.proofs.Size.SizesOf.{each_put, each_get, each_values}
+use Rattle.proto_safety.proofs.Serial.SlotCells.{lapsed_was_leased, acked_was_leased}
+use Rattle.proto_safety.specs.Sizes.{SlotCells}
+use Rattle.rp_world.proofs.SwitchSteady.{lapsed_asked}
 use Rattle.rp_app.proofs.Deltas.{length-written}
 use Rattle.proto_data.specs.declared.limits.TheConstants.{COPIES, SLOTS}
 
@@ -31,7 +35,7 @@ module _ (count : ℕ) where
   IsSlot turns slot = IsSteadySlot count turns 0 slot
 
   slot_later : (m n : ℕ) → m ≤ n → (slot : Slot) → IsSlot m slot → IsSlot n slot
-  slot_later m n le slot h = record { last = omega (arith, le, h.last); lease = h.lease }
+  slot_later m n le slot h = record { last = omega (arith, le, h.last); whole = h.whole; asked = h.asked }
 
   -- what holds after so many turns holds after more
   pub switch-later : (m n : ℕ) → m ≤ n → (s : Switch) → IsSoundSwitch count m s → IsSoundSwitch count n s
@@ -42,19 +46,9 @@ module _ (count : ℕ) where
         term = h.term;
         head = h.head;
         nonces = omega (arith, le, h.nonces);
-        slots = each_weaker _ _ (λ e is. slot_later m n le e.1 is) s.slots h.slots;
+        slots = each_weaker _ _ s.slots (λ e is. slot_later m n le e.1 is) h.slots;
         copies = h.copies;
       }
-
-  lease_lapsed : (cells : List ℕ) (lease : Lease) → IsSteadyLease count 0 cells lease → IsSteadyLease count 0 cells (lapsed_lease 0 lease)
-  lease_lapsed cells Idle h = tt
-  lease_lapsed cells (Asking nonce first) h = h
-  lease_lapsed cells (Held nonce epoch expiry) h = by (nat_le expiry 0)
-    where
-      by : (b : Bool) → IsSteadyLease count 0 cells (if b then Lapsed nonce epoch expiry else Held nonce epoch expiry)
-      by true = h
-      by false = h
-  lease_lapsed cells (Lapsed nonce epoch expiry) h = h
 
   switch-lapsed : (turns : ℕ) (s : Switch) → IsSoundSwitch count turns s → IsSoundSwitch count turns (lapsed 0 s)
   switch-lapsed turns s h =
@@ -64,7 +58,8 @@ module _ (count : ℕ) where
         term = h.term;
         head = h.head;
         nonces = h.nonces;
-        slots = each_map _ _ _ (λ e is. record { last = is.last; lease = lease_lapsed e.1.cells e.1.lease is.lease }) s.slots h.slots;
+        slots = each_values (λ k slot. IsSlot turns slot) (lapsed_slot 0) s.slots
+            (λ k slot is. record { last = is.last; whole = record { cells_are = λ l. is.whole.cells_are (lapsed_was_leased 0 slot.lease l) }; asked = lapsed_asked 0 0 slot.lease is.asked }) h.slots;
         copies = h.copies;
       }
 
@@ -97,7 +92,7 @@ module _ (count : ℕ) where
 
     row_keyed : (p : Packet) (key : List ℕ) (o : Option Slot) → slot_at s key ≡ o → IsRow (keyed_row app s 0 p key o)
     row_keyed p key None is = row_if (nat_lt (length s.slots) SLOTS) (NewAsk key fresh_slot p) (NoRoom p.mark) (omega arith) tt
-    row_keyed p key (Some slot) is = row_leased key slot p slot.lease (each_get (IsSlot turns) s.slots key slot sound.slots is)
+    row_keyed p key (Some slot) is = row_leased key slot p slot.lease (each_get (λ k x. IsSlot turns x) s.slots key slot is sound.slots)
 
     row_packet : (p : Packet) (o : Option (List ℕ)) → IsRow (packet_row app s 0 p o)
     row_packet p None = tt
@@ -107,7 +102,7 @@ module _ (count : ℕ) where
     row_carried key slot epoch other None h g = g
     row_carried key slot epoch other (Some c) h g =
         row_if (remembers slot.asked c.mark) (processed app s 0 key (without_asked slot c.mark) epoch (packet_of c)) other
-        (row_processed 0 key (without_asked slot c.mark) epoch (packet_of c) (record { last = h.last; lease = h.lease }))
+        (row_processed 0 key (without_asked slot c.mark) epoch (packet_of c) (record { last = h.last; whole = record { cells_are = h.whole.cells_are }; asked = h.asked }))
         g
 
     row_grant : (key : List ℕ) (slot : Slot) (nonce epoch : ℕ) (cells : List ℕ) (load : Option Carried) (lease : Lease) → IsSlot turns slot → length cells ≡ count →
@@ -115,7 +110,7 @@ module _ (count : ℕ) where
     row_grant key slot nonce epoch cells load Idle h long = tt
     row_grant key slot nonce epoch cells load (Asking own first) h long =
         let new = granted slot own epoch (first + s.terms.t_switch) cells in
-        let made : IsSlot turns new = record { last = omega arith; lease = long } in
+        let made : IsSlot turns new = record { last = omega arith; whole = record { cells_are = λ l. long }; asked = tt } in
         let row = carried_row app s 0 key new epoch (Granted key new) load in
         let late = Late key slot (asked_mark slot load) in
         let young = is_young s.terms.t_switch first 0 in
@@ -128,7 +123,7 @@ module _ (count : ℕ) where
 
     row_at : (key : List ℕ) (row : Slot → SwitchRow) → ((slot : Slot) → IsSlot turns slot → IsRow (row slot)) → (o : Option Slot) → slot_at s key ≡ o → IsRow (at_slot o row)
     row_at key row h None is = tt
-    row_at key row h (Some slot) is = h slot (each_get (IsSlot turns) s.slots key slot sound.slots is)
+    row_at key row h (Some slot) is = h slot (each_get (λ k x. IsSlot turns x) s.slots key slot is sound.slots)
 
     row_acked : (key : List ℕ) (slot : Slot) (upto : ℕ) (load : Option Carried) → IsSlot turns slot → IsRow (ack_row s.terms.mode key slot upto load)
     row_acked key slot upto load h = rw sound.strict h
@@ -189,25 +184,19 @@ module _ (count : ℕ) where
     pub sent : AllByRecursion IsRouted step.1.sent
     pub begun : step.1.begun ≡ []
 
-  lease_long : (old new : List ℕ) (lease : Lease) → length new ≡ length old → IsSteadyLease count 0 old lease → IsSteadyLease count 0 new lease
-  lease_long old new Idle long h = tt
-  lease_long old new (Asking nonce first) long h = h
-  lease_long old new (Held nonce epoch expiry) long h = long ∙ h
-  lease_long old new (Lapsed nonce epoch expiry) long h = long ∙ h
-
-  lease_extended : (t sent_at : ℕ) (cells : List ℕ) (lease : Lease) → IsSteadyLease count 0 cells lease → IsSteadyLease count 0 cells (extended t 0 sent_at lease)
-  lease_extended t sent_at cells Idle h = tt
-  lease_extended t sent_at cells (Asking nonce first) h = h
-  lease_extended t sent_at cells (Held nonce epoch expiry) h = h
-  lease_extended t sent_at cells (Lapsed nonce epoch expiry) h = by (nat_lt 0 (sent_at + t))
+  extended_asked : (t sent_at : ℕ) (lease : Lease) → AskedBy 0 lease → AskedBy 0 (extended t 0 sent_at lease)
+  extended_asked t sent_at Idle h = tt
+  extended_asked t sent_at (Asking nonce first) h = h
+  extended_asked t sent_at (Held nonce epoch expiry) h = tt
+  extended_asked t sent_at (Lapsed nonce epoch expiry) h = by (nat_lt 0 (sent_at + t))
     where
-      by : (b : Bool) → IsSteadyLease count 0 cells (if b then Held nonce epoch (sent_at + t) else Lapsed nonce epoch expiry)
-      by true = h
-      by false = h
+      by : (b : Bool) → AskedBy 0 (if b then Held nonce epoch (sent_at + t) else Lapsed nonce epoch expiry)
+      by true = tt
+      by false = tt
 
-  lease_acked : (t : ℕ) (cells : List ℕ) (lease : Lease) (best : Option (ℕ × ℕ)) → IsSteadyLease count 0 cells lease → IsSteadyLease count 0 cells (acked_lease t 0 lease best)
-  lease_acked t cells lease None h = h
-  lease_acked t cells lease (Some best) h = lease_extended t best.1 cells lease h
+  acked_asked : (t : ℕ) (lease : Lease) (best : Option (ℕ × ℕ)) → AskedBy 0 lease → AskedBy 0 (acked_lease t 0 lease best)
+  acked_asked t lease None h = h
+  acked_asked t lease (Some best) h = extended_asked t best.1 lease h
 
   module _ (turns : ℕ) (s : Switch) (sound : IsSoundSwitch count turns s) where
     abbrev n : ℕ
@@ -234,7 +223,7 @@ module _ (count : ℕ) where
         }
 
     slots_put : (key : List ℕ) (slot : Slot) → IsSlot n slot → AllByRecursion (λ (e : List ℕ × Slot). IsSlot n e.1) (put s.slots key slot)
-    slots_put key slot h = each_put (IsSlot n) s.slots key slot later.slots h
+    slots_put key slot h = each_put (λ k x. IsSlot n x) s.slots key slot h later.slots
 
     low : s.nonces ≤ n
     low = later.nonces
@@ -245,24 +234,28 @@ module _ (count : ℕ) where
     to_one : (body : Body) → IsRequest body → IsRoutedTo (head_node s.config.chain) (Node.Switch s.me) body
     to_one body h = rw sound.head (refl, ap (λ k. Node.Switch k) sound.me, h)
 
+    -- writing leaves a slot its cells
+    written : (slot : Slot) (delta : Delta) → SlotCells count slot → SlotCells count (record slot { cells = written_cells slot.cells delta })
+    written slot delta h = record { cells_are = λ l. length-written slot.cells delta ∙ h.cells_are l }
+
     idle : (key : List ℕ) (slot : Slot) → slot.last ≤ turns → IsSoundSwitch count n (idled s key slot)
-    idle key slot h = changed _ refl refl refl low (slots_put key _ (record { last = omega (arith, h); lease = tt })) (each_filter _ _ s.copies sound.copies)
+    idle key slot h = changed _ refl refl refl low (slots_put key _ (record { last = omega (arith, h); whole = record { cells_are = λ l. absurd (false≢true l) }; asked = tt })) (each_filter _ _ s.copies sound.copies)
 
     perform-sound : (row : SwitchRow) → IsSoundRow count turns row → IsSoundStep n (perform s 0 row)
     perform-sound (Keyless out) h = record { switch = later; sent = tt; begun = refl }
     perform-sound (NoRoom mark) h = record { switch = later; sent = tt; begun = refl }
     perform-sound (NewAsk key slot p) h =
         record {
-          switch = changed _ refl refl refl (omega (arith, sound.nonces)) (slots_put key _ (record { last = omega (arith, h); lease = omega arith })) (each_filter _ _ s.copies sound.copies);
+          switch = changed _ refl refl refl (omega (arith, sound.nonces)) (slots_put key _ (record { last = omega (arith, h); whole = record { cells_are = λ l. absurd (false≢true l) }; asked = omega arith })) (each_filter _ _ s.copies sound.copies);
           sent = (to_one _ tt, tt);
           begun = refl;
         }
     perform-sound (AskAgain key slot nonce p) h =
-        record { switch = stored key _ (record { last = h.last; lease = h.lease }); sent = (to_one _ tt, tt); begun = refl }
+        record { switch = stored key _ (record { last = h.last; whole = record { cells_are = h.whole.cells_are }; asked = h.asked }); sent = (to_one _ tt, tt); begun = refl }
     perform-sound (Drops key slot mark cause) h = record { switch = stored key slot h; sent = tt; begun = refl }
     perform-sound (Direct key slot epoch mark delta out) h =
         record {
-          switch = stored key _ (record { last = h.last; lease = lease_long slot.cells _ slot.lease (length-written slot.cells delta) h.lease });
+          switch = stored key _ (record { last = h.last; whole = record { cells_are = (written slot delta h.whole).cells_are }; asked = h.asked });
           sent = tt;
           begun = refl;
         }
@@ -270,7 +263,7 @@ module _ (count : ℕ) where
         record {
           switch =
               changed _ refl refl refl low
-              (slots_put key _ (record { last = omega (arith, h.last); lease = lease_long slot.cells _ slot.lease (length-written slot.cells delta) h.lease }))
+              (slots_put key _ (record { last = omega (arith, h.last); whole = record { cells_are = (written slot delta h.whole).cells_are }; asked = h.asked }))
               (each_append _ s.copies _ sound.copies (omega arith, tt));
           sent = (to_one _ tt, tt);
           begun = refl;
@@ -282,14 +275,14 @@ module _ (count : ℕ) where
         record {
           switch =
               changed _ refl refl refl low
-              (slots_put key _ (record { last = omega (arith, h.last); lease = lease_acked s.terms.t_switch slot.cells slot.lease _ h.lease }))
+              (slots_put key _ (record { last = omega (arith, h.last); whole = record { cells_are = λ l. h.whole.cells_are (acked_was_leased s.terms.t_switch 0 slot.lease _ l) }; asked = acked_asked s.terms.t_switch slot.lease _ h.asked }))
               (each_filter _ _ s.copies sound.copies);
           sent = tt;
           begun = refl;
         }
     perform-sound (RoundDone key slot r) h = absurd h
     perform-sound (Denied key slot) h = record { switch = idle key slot h; sent = tt; begun = refl }
-    perform-sound (Busied key slot mark) h = record { switch = stored key _ (record { last = h.last; lease = h.lease }); sent = tt; begun = refl }
+    perform-sound (Busied key slot mark) h = record { switch = stored key _ (record { last = h.last; whole = record { cells_are = h.whole.cells_are }; asked = h.asked }); sent = tt; begun = refl }
     perform-sound (Adopts config) h = absurd h
     perform-sound Resends h = absurd h
     perform-sound Stale h = record { switch = later; sent = tt; begun = refl }

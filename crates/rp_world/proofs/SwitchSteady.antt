@@ -4,21 +4,23 @@ use Rattle.std.specs.Prelude.{if◌then◌else◌, nat_le, All, fold, IfSome}
 use Rattle.key_table.specs.Table.{Key, Table, same_key, get, map_values}
 use Rattle.proto_model.specs.Slot.{Slot, Lease, Idle, Asking, Held, Lapsed, lapsed_slot, lapsed_lease}
 use Rattle.proto_model.specs.SwitchState.{Copy, greatest_first, is_covered}
-use Rattle.rp_world.specs.Steady.{IsSteadyLease, IsSteadySlot}
+use Rattle.proto_safety.proofs.Serial.SlotCells.{lapsed_was_leased}
+use Rattle.rp_world.specs.Steady.{AskedBy, IsSteadySlot}
 
 -- the rest of a list
 rest_of : {X : Type 0} (P : X → Type 0) (x : X) (xs : List X) → All P (x ∷ xs) → All P xs
 rest_of P x xs h = λ k d lt. h (suc k) d (omega arith)
 
-still_steady : (count now : ℕ) (cells : List ℕ) (lease : Lease) → IsSteadyLease count now cells lease → IsSteadyLease count now cells (lapsed_lease now lease)
-still_steady count now cells Idle h = tt
-still_steady count now cells (Asking nonce first) h = h
-still_steady count now cells (Held nonce epoch expiry) h = lapse_case (nat_le expiry now)
+-- a lease that has ended was asked for as before
+pub lapsed_asked : (now at : ℕ) (lease : Lease) → AskedBy now lease → AskedBy now (lapsed_lease at lease)
+lapsed_asked now at Idle h = tt
+lapsed_asked now at (Asking nonce first) h = h
+lapsed_asked now at (Held nonce epoch expiry) h = lapse_case (nat_le expiry at)
   where
-    lapse_case : (b : Bool) → IsSteadyLease count now cells (if b then Lapsed nonce epoch expiry else Held nonce epoch expiry)
-    lapse_case true = h
-    lapse_case false = h
-still_steady count now cells (Lapsed nonce epoch expiry) h = h
+    lapse_case : (b : Bool) → AskedBy now (if b then Lapsed nonce epoch expiry else Held nonce epoch expiry)
+    lapse_case true = tt
+    lapse_case false = tt
+lapsed_asked now at (Lapsed nonce epoch expiry) h = tt
 
 pub steady_slot : (count turns now : ℕ) (t : Table Slot) (k : Key) (slot : Slot) → All (λ e. IsSteadySlot count turns now e.1) t → get (map_values (lapsed_slot now) t) k ≡ Some slot → IsSteadySlot count turns now slot
 steady_slot count turns now [] k slot h at = absurd cc
@@ -29,7 +31,7 @@ steady_slot count turns now (e ∷ es) k slot h at = at_case count turns now e e
         (if b then Some (lapsed_slot now e.1) else get (map_values (lapsed_slot now) es) k) ≡ Some slot → IsSteadySlot count turns now slot
     at_case count turns now e es k slot true first rest is =
         let same : lapsed_slot now e.1 ≡ slot = cc in
-        let lapsed : IsSteadySlot count turns now (lapsed_slot now e.1) = record { last = first.last; lease = still_steady count now e.1.cells e.1.lease first.lease } in
+        let lapsed : IsSteadySlot count turns now (lapsed_slot now e.1) = record { last = first.last; whole = record { cells_are = λ l. first.whole.cells_are (lapsed_was_leased now e.1.lease l) }; asked = lapsed_asked now now e.1.lease first.asked } in
         subst (IsSteadySlot count turns now) same lapsed
     at_case count turns now e es k slot false first rest is = rest is
 

@@ -1,6 +1,5 @@
 pub mod Frames
-pub mod Running
-pub mod Store
+pub mod AppWorld
 pub mod Lease
 pub mod Steady
 pub mod OneEach

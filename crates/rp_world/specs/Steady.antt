@@ -1,18 +1,21 @@
 -- What is known of a switch after some turns: its numbers grew by at most one each turn, and its moments are past.
-use Rattle.std.specs.Prelude.{ℕ, ◌≡◌, ◌≤◌, List, All, length}
+use Rattle.std.specs.Prelude.{ℕ, ◌≤◌, All}
 use Rattle.proto_model.specs.Slot.{Slot, Lease, Idle, Asking, Held, Lapsed}
 use Rattle.proto_model.specs.SwitchState.{Switch, Copy}
+use Rattle.proto_safety.specs.Sizes.{SlotCells}
 
--- a lease of a slot with these cells: first sendings are past, and a slot that was granted has every cell of the application
-abbrev pub IsSteadyLease : ℕ → ℕ → List ℕ → Lease → Type 0
-IsSteadyLease count now cells Idle = Unit {0}
-IsSteadyLease count now cells (Asking nonce first) = first ≤ now
-IsSteadyLease count now cells (Held nonce epoch expiry) = length cells ≡ count
-IsSteadyLease count now cells (Lapsed nonce epoch expiry) = length cells ≡ count
+-- where a lease is asked for, the first sending is past
+abbrev pub AskedBy : ℕ → Lease → Type 0
+AskedBy now Idle = Unit {0}
+AskedBy now (Asking nonce first) = first ≤ now
+AskedBy now (Held nonce epoch expiry) = Unit {0}
+AskedBy now (Lapsed nonce epoch expiry) = Unit {0}
 
+-- a slot after so many turns, at such a moment
 pub record IsSteadySlot (count turns now : ℕ) (slot : Slot) : Type 0 where
   pub last : slot.last ≤ turns
-  pub lease : IsSteadyLease count now slot.cells slot.lease
+  pub whole : SlotCells count slot
+  pub asked : AskedBy now slot.lease
 
 -- a switch of an application with so many cells, after so many turns, at a moment of its clock
 pub record IsSteady (count turns now : ℕ) (s : Switch) : Type 0 where

@@ -5,8 +5,8 @@ ghost use Rattle.key_table.specs.Table.{get};
 
 use crate::flow_notes::Flows;
 use crate::history::Journaled;
-use crate::records::Records;
 use crate::step_notes::Booked;
+use lease_table::LeaseTable;
 use proto_model::Record;
 use rp_base::{Key, Line, Lines, Marks, NoMemory};
 use std::alloc::Global;
@@ -61,12 +61,12 @@ fn push_flows(
     alloc: Global,
     lines: &mut Lines,
     flows: &Flows,
-    records: &Records,
+    leases: &LeaseTable,
 ) -> Result<(), NoMemory>
-    ensures { OnOk result (lines.new ≡ lines.old ++ flat_map (flow_shown flows.now) records.now) }
+    ensures { OnOk result (lines.new ≡ lines.old ++ flat_map (flow_shown flows.now) leases.now.records) }
 {
-    for place in 0..records.len() {
-        if let Some((key, record)) = records.at(place as usize) {
+    for place in 0..leases.len() {
+        if let Some((key, record)) = leases.at(place as usize) {
             push_flow(alloc, lines, flows, key, record)?;
         }
     }
@@ -79,15 +79,15 @@ fn push_flows(
 /// `NoMemory`.
 pub(crate) fn closing_lines(
     alloc: Global,
-    records: &Records,
+    leases: &LeaseTable,
     book: &[Booked],
     items: &[Journaled],
 ) -> Result<Lines, NoMemory>
-    ensures { IfOk result (λ lines. lines ≡ closing_shown (noted book.now items.now) records.now) }
+    ensures { IfOk result (λ lines. lines ≡ closing_shown (noted book.now items.now) leases.now.records) }
 {
     let flows = noted(alloc, book, items)?;
     let mut lines = Lines::new(alloc);
-    push_flows(alloc, &mut lines, &flows, records)?;
+    push_flows(alloc, &mut lines, &flows, leases)?;
     lines.push(Line::End)?;
     Ok(lines)
 }

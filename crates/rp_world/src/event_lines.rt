@@ -3,7 +3,7 @@ ghost use Rattle.std.specs.Prelude.{◌≡◌, ◌++◌, ℕ, IfOk, OnOk};
 ghost use Rattle.rp_base.specs.declared.event.DropCause.{DropCause as CauseValue};
 ghost use Rattle.proto_model.specs.Effects.{added, release_line};
 ghost use Rattle.proto_model.specs.Lines.{Dropped, LostLine};
-ghost use Rattle.rp_world.specs.Running.{shown};
+ghost use Rattle.rp_world.specs.AppWorld.{shown};
 
 use rp_base::{DropCause, Line, Lines, Lost, NoMemory, Output};
 use std::alloc::Global;

@@ -6,7 +6,7 @@ ghost use Rattle.key_table.specs.Table.{get};
 ghost use Rattle.rp_world.specs.Endings.{numbered, with_entry, with_item, closing_in, is_within, marks_in, serial_in};
 
 use crate::switch_did::Item;
-use indexmap::IndexMap;
+use key_table::KeyTable;
 use proto_model::Entry;
 use rp_base::{Key, Marks, NoMemory};
 use std::alloc::Global;
@@ -178,7 +178,7 @@ impl FlowNotes {
 /// The notes of every flow.
 #[derive(Drop)]
 pub(crate) struct Flows {
-    rows: IndexMap<Key, FlowNotes>,
+    rows: KeyTable<FlowNotes>,
     alloc: Global,
 }
 
@@ -188,7 +188,7 @@ impl Model for Flows {
 
     ghost Value = { Table FlowNotesValue };
 
-    ghost view = { λ t. t.rows.entries };
+    ghost view = { λ t. t.rows };
 }
 
 impl Flows {
@@ -197,7 +197,7 @@ impl Flows {
         ensures { result ≡ [] }
     {
         Flows {
-            rows: IndexMap::new(alloc),
+            rows: KeyTable::new(alloc),
             alloc,
         }
     }
@@ -210,14 +210,13 @@ impl Flows {
         ensures { OnOk result (self.new ≡ with_entry self.old entry.now) }
     {
         let (key, number) = number_entry(entry);
-        if let Some(i) = self.rows.get_index_of(&key) {
-            let flow = &mut self.rows[i];
+        if let Some(flow) = self.rows.get_mut(&key) {
             flow.entries.push(number)?;
             return Ok(());
         }
         let mut flow = FlowNotes::new(self.alloc);
         flow.entries.push(number)?;
-        self.rows.insert(key, flow)?;
+        self.rows.put(key, flow)?;
         Ok(())
     }
 
@@ -233,14 +232,13 @@ impl Flows {
             number: item.number,
             mark: item.mark,
         };
-        if let Some(i) = self.rows.get_index_of(&item.key) {
-            let flow = &mut self.rows[i];
+        if let Some(flow) = self.rows.get_mut(&item.key) {
             flow.items.push(marked)?;
             return Ok(());
         }
         let mut flow = FlowNotes::new(self.alloc);
         flow.items.push(marked)?;
-        self.rows.insert(item.key, flow)?;
+        self.rows.put(item.key, flow)?;
         Ok(())
     }
 

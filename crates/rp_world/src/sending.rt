@@ -3,7 +3,7 @@ ghost use Rattle.std.specs.Prelude.{◌≡◌, [], ◌∷◌, ◌++◌, length, 
 ghost use Rattle.std.specs.List.{AllByRecursion};
 ghost use Rattle.proto_model.specs.Lines.{send_line, send_lines};
 ghost use Rattle.rp_world.specs.Frames.{IsSendable};
-ghost use Rattle.rp_world.specs.Running.{line_of, shown};
+ghost use Rattle.rp_world.specs.AppWorld.{line_of, shown};
 
 use crate::frames::Frames;
 use proto_model::Msg;

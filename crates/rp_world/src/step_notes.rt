@@ -5,18 +5,18 @@ ghost use Rattle.rp_base.specs.declared.line.Line.{Line as LineValue};
 ghost use Rattle.proto_model.specs.Effects.{added, history_after, switch_lines, store_lines};
 ghost use Rattle.proto_model.specs.Lines.{Refused};
 ghost use Rattle.rp_world.specs.Frames.{IsSendable};
-ghost use Rattle.rp_world.specs.Running.{shown};
+ghost use Rattle.rp_world.specs.AppWorld.{shown};
 
 use crate::event_lines;
 use crate::frames::Frames;
 use crate::history::History;
 use crate::sending::send;
-use crate::store_did::StoreDid;
 use crate::switch_did::SwitchDid;
 use proto_model::Entry;
 use rp_base::{Line, Lines, NoMemory, Refusal};
 use std::alloc::Global;
 use std::marker::Model;
+use store_replica::StoreDid;
 
 /// An entry that a replica applied, with its clock and the number of the event.
 #[derive(Debug, Drop)]
@@ -90,7 +90,7 @@ pub(crate) fn note_store(
     } = did;
     let mut lines = event_lines::store_lines(alloc, event, lost)?;
     push_booked(book, event, now, applied)?;
-    send(&mut lines, event, frames, &sent)?;
+    send(&mut lines, event, frames, sent.as_slice())?;
     Ok(lines)
 }
 

@@ -6,7 +6,8 @@ ghost use Rattle.proto_model.specs.Ring.{remembers};
 ghost use Rattle.proto_model.specs.Slot.{fresh_slot};
 ghost use Rattle.proto_model.specs.SwitchRow.{Acked, Denied, Granted, Late, NewAsk, NoRoom, Stale, asked_mark, carried_row, granted, busy_row, grant_row, has_epoch, leased_row, process_row, without_asked};
 ghost use Rattle.rp_world.specs.Lease.{lease_of};
-ghost use Rattle.rp_world.specs.Steady.{IsSteadyLease};
+ghost use Rattle.proto_safety.specs.Sizes.{SlotCells};
+ghost use Rattle.rp_world.specs.Steady.{AskedBy};
 
 use crate::switch::Switch;
 use crate::switch_did::SwitchDid;
@@ -98,7 +99,8 @@ impl Switch {
         requires moment { now ≤ 2 ^ 62 }
         requires nonces { self.old.nonces ≤ 2 ^ 63 }
         requires last { slot.last ≤ 2 ^ 63 }
-        requires lease { IsSteadyLease (A.meaning app.now).cell_count now slot.cells slot.lease }
+        requires all_cells { SlotCells (A.meaning app.now).cell_count slot }
+        requires asked { AskedBy now slot.lease }
         ensures { IfOk result (λ did. (self.new, did) ≡ perform self.old now (leased_row (A.meaning app.now) self.old now key.now slot packet.now slot.lease)) }
     {
         match slot.lease() {
@@ -154,7 +156,8 @@ impl Switch {
         requires term { self.old.terms.t_switch ≤ 2 ^ 62 }
         requires moment { now ≤ 2 ^ 62 }
         requires last { slot.last ≤ 2 ^ 63 }
-        requires lease { IsSteadyLease (A.meaning app.now).cell_count now slot.cells slot.lease }
+        requires all_cells { SlotCells (A.meaning app.now).cell_count slot }
+        requires asked { AskedBy now slot.lease }
         ensures { IfOk result (λ did. (self.new, did) ≡ perform (with_slot self.old key.now slot) now (if (inc == self.old.inc) && (length cells.now == (A.meaning app.now).cell_count) then grant_row (A.meaning app.now) (with_slot self.old key.now slot) now key.now slot nonce epoch cells.now load.now slot.lease else Stale)) }
     {
         if inc == self.inc && cells.len() == app.cells() as u64 {
@@ -181,7 +184,8 @@ impl Switch {
         requires moment { now ≤ 2 ^ 62 }
         requires whole { length cells.now ≡ (A.meaning app.now).cell_count }
         requires last { slot.last ≤ 2 ^ 63 }
-        requires lease { IsSteadyLease (A.meaning app.now).cell_count now slot.cells slot.lease }
+        requires all_cells { SlotCells (A.meaning app.now).cell_count slot }
+        requires asked { AskedBy now slot.lease }
         ensures { IfOk result (λ did. (self.new, did) ≡ perform (with_slot self.old key.now slot) now (grant_row (A.meaning app.now) (with_slot self.old key.now slot) now key.now slot nonce epoch cells.now load.now slot.lease)) }
     {
         match slot.lease() {

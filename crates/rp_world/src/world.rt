@@ -3,10 +3,10 @@ ghost use Rattle.std.specs.Prelude.{◌≡◌, ◌<◌, ◌≤◌, ◌+◌, true
 ghost use Rattle.proto_model.specs.EndLines.{end_lines};
 ghost use Rattle.proto_safety.specs.Frames.{Grows};
 ghost use Rattle.rp_frame.specs.Spelling.{spelling};
-ghost use Rattle.rp_world.specs.Running.{IsSetup, IsEvent, opened_as, stepped, shown};
+ghost use Rattle.rp_world.specs.AppWorld.{IsSetup, IsEvent, opened_as, stepped, shown};
 ghost use Rattle.rp_world.specs.OneEach.{IsGoing};
 
-use crate::run::Run;
+use crate::one_each::OneEach;
 use proto_model::Terms;
 use rp_app::App;
 use rp_base::{Event, Lines, NoMemory};
@@ -27,33 +27,33 @@ pub struct Setup {
 #[derive(Drop)]
 pub struct World<A: App> {
     app: A,
-    run: Run,
+    world: OneEach,
     failed: bool,
 }
 
 impl<A: App> Model for World<A> {
     ghost use Rattle.std.specs.Prelude.{◌≡◌, false};
-    ghost use Rattle.rp_world.specs.Running.{Running};
+    ghost use Rattle.rp_world.specs.AppWorld.{AppWorld};
     ghost use Rattle.rp_world.specs.OneEach.{IsGoing};
 
-    ghost Value = { Running A };
+    ghost Value = { AppWorld A };
 
-    ghost view = { λ w. record { app = w.app; world = w.run; failed = w.failed } };
+    ghost view = { λ w. record { app = w.app; world = w.world; failed = w.failed } };
 
-    ghost invariant = { λ w. w.failed ≡ false → IsGoing (A.meaning w.app) w.run };
+    ghost invariant = { λ w. w.failed ≡ false → IsGoing (A.meaning w.app) w.world };
 }
 
 /// Takes one event.
-fn step<A: App>(app: &A, run: &mut Run, e: &Event) -> Result<Lines, NoMemory>
+fn step<A: App>(app: &A, world: &mut OneEach, e: &Event) -> Result<Lines, NoMemory>
     requires event { IsEvent e.now }
-    requires count { run.old.event < 1000000000 }
-    requires going { IsGoing (A.meaning app.now) run.old }
-    ensures step { IfOk result (λ lines. (run.new, lines) ≡ stepped (A.meaning app.now) run.old e.now) }
-    ensures going { OnOk result (IsGoing (A.meaning app.now) run.new) }
+    requires count { world.old.event < 1000000000 }
+    requires going { IsGoing (A.meaning app.now) world.old }
+    ensures step { IfOk result (λ lines. (world.new, lines) ≡ stepped (A.meaning app.now) world.old e.now) }
+    ensures going { OnOk result (IsGoing (A.meaning app.now) world.new) }
 {
     match e {
-        Event::Feed { port, bytes } => run.feed(app, *port, bytes),
-        Event::Next => run.next(app),
+        Event::Feed { port, bytes } => world.feed(app, *port, bytes),
+        Event::Next => world.next(app),
         _ => unreachable!(),
     }
 }
@@ -70,10 +70,10 @@ impl<A: App> World<A> {
         requires cells { (A.meaning app).cell_count ≤ 32 }
         ensures { IfOk result (λ made. made ≡ record { app = app; world = opened_as (A.meaning app).cell_count setup.now; failed = false }) }
     {
-        let run = Run::open(alloc, app.cells(), &setup.terms)?;
+        let world = OneEach::open(alloc, app.cells(), &setup.terms)?;
         Ok(World {
             app,
-            run,
+            world,
             failed: false,
         })
     }
@@ -96,7 +96,7 @@ impl<A: App> World<A> {
         if self.failed {
             return Err(NoMemory);
         }
-        let result = step(&self.app, &mut self.run, e);
+        let result = step(&self.app, &mut self.world, e);
         self.failed = result.is_err();
         result
     }
@@ -112,7 +112,7 @@ impl<A: App> World<A> {
         if self.failed {
             return Err(NoMemory);
         }
-        let lines = self.run.closing()?;
+        let lines = self.world.closing()?;
         Ok(lines)
     }
 
@@ -120,7 +120,7 @@ impl<A: App> World<A> {
     pub fn frames(&self) -> u64
         ensures { result ≡ length self.now.world.frames }
     {
-        self.run.frames()
+        self.world.frames()
     }
 
     /// The bytes of the frame with this number, counted from 0.
@@ -129,6 +129,6 @@ impl<A: App> World<A> {
         ensures spelled { option_map spelling (slice_get self.now.world.frames i) ≡ Some result.now }
         ensures short { length result.now ≤ 3700 }
     {
-        self.run.frame(i)
+        self.world.frame(i)
     }
 }

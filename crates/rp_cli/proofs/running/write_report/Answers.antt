@@ -5,7 +5,7 @@ use Rattle.rp_base.specs.declared.line.Line.{Line}
 use Rattle.proto_model.specs.World.{World}
 use Rattle.proto_model.specs.WorldStep.{world_step}
 use Rattle.proto_model.specs.EndLines.{end_lines}
-use Rattle.rp_world.specs.Running.{stepped, shown}
+use Rattle.rp_world.specs.AppWorld.{stepped, shown}
 use Rattle.run_report.specs.Report.{NamesKind}
 use Rattle.rp_cli.specs.Reports.{lines_written, report_text}
 use Rattle.rp_cli.proofs.Fronts.{Midway, Midway-begun, Midway-more, Midway-front, Midway-part, Midway-whole, on_err, on_err-map, on_ok-map}

@@ -1,7 +1,11 @@
-use Rattle.rp_cli.proofs.Schedules.{both_loaded}
+use Rattle.rp_cli.proofs.Programs.{told_accepted, told_refused}
 use Rattle.rp_cli.proofs.top.unbuilt.Goals as goal
 
-pub returns-in-Ok-load-clause-told : goal.returns-in-Ok-load-clause-told
-returns-in-Ok-load-clause-told g c =
-    both_loaded (g.I.Inputs.contents c.args.inputs.now) (g.I.Inputs.contents c.load.new.self) c.args.program.now c.args.schedule.now _ _ c.load.new.into c.load-in-Ok.new.into
-    c.load.ensures.same c.in-Ok.ensures.ok c.in-Ok-load.ensures.ok
+pub returns-in-Ok-clause-told : goal.returns-in-Ok-clause-told
+returns-in-Ok-clause-told g c =
+    told_refused (g.I.Inputs.contents c.args.inputs.now) c.args.program.now c.args.schedule.now c.load.new.into c.in-Err.status c.in-Ok.ensures.ok c.in-Err.ensures.exact
+
+pub returns-in-Ok-accept-clause-told : goal.returns-in-Ok-accept-clause-told
+returns-in-Ok-accept-clause-told g c =
+    told_accepted (g.I.Inputs.contents c.args.inputs.now) (g.I.Inputs.contents c.load.new.self) c.args.program.now c.args.schedule.now c.load.new.into c.accepted.result
+    c.load.ensures.same c.in-Ok.ensures.ok c.in-Ok-accept.ensures.exact c.accepted.ensures.told

@@ -1,6 +1,6 @@
 use Rattle.std.proofs.Common.{◌≡◌, ◌++◌, length, take}
 use Rattle.proto_model.specs.Lines.{send_lines}
-use Rattle.rp_world.specs.Running.{shown}
+use Rattle.rp_world.specs.AppWorld.{shown}
 use Rattle.rp_world.proofs.sending.send.Given as goal
 
 abbrev pub invariant-loop-m : goal.invariant-loop-m

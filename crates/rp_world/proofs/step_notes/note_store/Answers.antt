@@ -1,7 +1,7 @@
 use Rattle.std.proofs.Common.{◌≡◌, ◌∙◌, ◌++◌, length, subst}
 use Rattle.proto_model.specs.Effects.{store_lines}
 use Rattle.proto_model.specs.Lines.{send_lines}
-use Rattle.rp_world.specs.Running.{shown}
+use Rattle.rp_world.specs.AppWorld.{shown}
 use Rattle.rp_world.proofs.ShownLines.{shown-store}
 use Rattle.rp_world.proofs.step_notes.note_store.Goals as goal
 
@@ -10,5 +10,5 @@ returns-clause-lines c =
     let before = length c.args.frames.now in
     subst (λ did. c.send.new.lines ≡ shown (store_lines c.args.event before did)) c.did.view_is
     (c.in_ok-send.ensures.lines
-    ∙ (λ i. c.in_ok-lines.ensures i ++ shown (send_lines c.args.event before (c.deref.ensures.value i)))
-    ∙ shown-store c.args.event before (record { sent = c.did.inside.sent.items; applied = c.did.inside.applied; lost = c.did.inside.lost }))
+    ∙ (λ i. c.in_ok-lines.ensures i ++ shown (send_lines c.args.event before (c.as_slice.ensures i)))
+    ∙ shown-store c.args.event before (record { sent = c.did.inside.sent; applied = c.did.inside.applied; lost = c.did.inside.lost }))

@@ -1,7 +1,7 @@
 use Rattle.std.proofs.Common.{◌≡◌, ◌∙◌, ◌++◌, length, subst}
 use Rattle.proto_model.specs.Effects.{switch_lines}
 use Rattle.proto_model.specs.Lines.{send_lines}
-use Rattle.rp_world.specs.Running.{shown}
+use Rattle.rp_world.specs.AppWorld.{shown}
 use Rattle.rp_world.proofs.ShownLines.{shown-switch}
 use Rattle.rp_world.proofs.step_notes.note_switch.Goals as goal
 

@@ -9,10 +9,15 @@ on_grant-requires-clause-last g c =
     let at = found_mid _ c.args.self.now c.lapse.new.self c.args.now c.in-Grant.key (Some c.in-Some.slot) c.self.view_is c.lapse.ensures c.in-Some.ensures.value in
     (steady_slot (g.A.App.meaning c.args.app.now).cell_count (2 ^ 63) c.args.now c.args.self.now.slots c.in-Grant.key c.in-Some.slot c.requires.steady.slots at).last
 
-pub on_grant-requires-clause-lease : goal.on_grant-requires-clause-lease
-on_grant-requires-clause-lease g c =
+pub on_grant-requires-clause-all_cells : goal.on_grant-requires-clause-all_cells
+on_grant-requires-clause-all_cells g c =
     let at = found_mid _ c.args.self.now c.lapse.new.self c.args.now c.in-Grant.key (Some c.in-Some.slot) c.self.view_is c.lapse.ensures c.in-Some.ensures.value in
-    (steady_slot (g.A.App.meaning c.args.app.now).cell_count (2 ^ 63) c.args.now c.args.self.now.slots c.in-Grant.key c.in-Some.slot c.requires.steady.slots at).lease
+    (steady_slot (g.A.App.meaning c.args.app.now).cell_count (2 ^ 63) c.args.now c.args.self.now.slots c.in-Grant.key c.in-Some.slot c.requires.steady.slots at).whole
+
+pub on_grant-requires-clause-asked : goal.on_grant-requires-clause-asked
+on_grant-requires-clause-asked g c =
+    let at = found_mid _ c.args.self.now c.lapse.new.self c.args.now c.in-Grant.key (Some c.in-Some.slot) c.self.view_is c.lapse.ensures c.in-Some.ensures.value in
+    (steady_slot (g.A.App.meaning c.args.app.now).cell_count (2 ^ 63) c.args.now c.args.self.now.slots c.in-Grant.key c.in-Some.slot c.requires.steady.slots at).asked
 
 pub returns-in-Some : goal.returns-in-Some
 returns-in-Some g c = record {

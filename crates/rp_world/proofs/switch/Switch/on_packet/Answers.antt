@@ -18,10 +18,15 @@ leased-requires-clause-last g c =
     let at = found_mid _ c.args.self.now c.lapse.new.self c.args.now c.in-Some.key (Some c.in-Some-take.slot) c.self.view_is c.lapse.ensures c.in-Some-take.ensures.value in
     (steady_slot (g.A.App.meaning c.args.app.now).cell_count (2 ^ 63) c.args.now c.args.self.now.slots c.in-Some.key c.in-Some-take.slot c.requires.steady.slots at).last
 
-pub leased-requires-clause-lease : goal.leased-requires-clause-lease
-leased-requires-clause-lease g c =
+pub leased-requires-clause-all_cells : goal.leased-requires-clause-all_cells
+leased-requires-clause-all_cells g c =
     let at = found_mid _ c.args.self.now c.lapse.new.self c.args.now c.in-Some.key (Some c.in-Some-take.slot) c.self.view_is c.lapse.ensures c.in-Some-take.ensures.value in
-    (steady_slot (g.A.App.meaning c.args.app.now).cell_count (2 ^ 63) c.args.now c.args.self.now.slots c.in-Some.key c.in-Some-take.slot c.requires.steady.slots at).lease
+    (steady_slot (g.A.App.meaning c.args.app.now).cell_count (2 ^ 63) c.args.now c.args.self.now.slots c.in-Some.key c.in-Some-take.slot c.requires.steady.slots at).whole
+
+pub leased-requires-clause-asked : goal.leased-requires-clause-asked
+leased-requires-clause-asked g c =
+    let at = found_mid _ c.args.self.now c.lapse.new.self c.args.now c.in-Some.key (Some c.in-Some-take.slot) c.self.view_is c.lapse.ensures c.in-Some-take.ensures.value in
+    (steady_slot (g.A.App.meaning c.args.app.now).cell_count (2 ^ 63) c.args.now c.args.self.now.slots c.in-Some.key c.in-Some-take.slot c.requires.steady.slots at).asked
 
 pub returns-in-Some-take : goal.returns-in-Some-take
 returns-in-Some-take g c =

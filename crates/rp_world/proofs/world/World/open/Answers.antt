@@ -9,9 +9,9 @@ pub invariant_of-result : goal.invariant_of-result
 invariant_of-result g c going =
     let app = g.A.App.meaning c.args.app in
     let setup : Setup = record { switches = 1; replicas = 1; terms = c.args.setup.now.terms; linked = false } in
-    let made : c.in_ok-run.run' ≡ opened c.cells.result setup = c.in_ok-run.ensures.made in
+    let made : c.in_ok-world.world ≡ opened c.cells.result setup = c.in_ok-world.ensures.made in
     record {
       cells = c.requires.cells;
-      sound = subst (λ n. IsSound n c.in_ok-run.run') c.cells.ensures c.in_ok-run.ensures.sound;
+      sound = subst (λ n. IsSound n c.in_ok-world.world) c.cells.ensures c.in_ok-world.ensures.sound;
       sized = subst (Sized app) (sym (made ∙ ap (λ n. opened n setup) c.cells.ensures)) (opened_sized app setup (omega arith) (omega arith) (omega arith));
     }

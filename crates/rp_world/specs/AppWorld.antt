@@ -1,4 +1,4 @@
--- A world as its callers see it, and what its calls do.
+-- A world with its application as callers see it, and what its calls do.
 use Rattle.std.specs.Prelude.{ℕ, ◌≤◌, ◌≡◌, Bool, false, List, length}
 use Rattle.rp_base.specs.declared.event.Event.{Event}
 use Rattle.rp_base.specs.declared.line.Line.{Line as Shown}
@@ -12,8 +12,8 @@ use Rattle.proto_model.specs.WorldStep.{world_step}
 use Rattle.rp_frame.specs.Spelling.{kind, spelling}
 use Rattle.rp_world.specs.declared.world.Setup.{Setup}
 
--- the application, the state of the run, and whether memory ran out
-pub record Running (A : Type 0) : Type 0 where
+-- the world of an application, and whether memory ran out
+pub record AppWorld (A : Type 0) : Type 0 where
   pub app : A
   pub world : World
   pub failed : Bool

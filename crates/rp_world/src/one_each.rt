@@ -1,29 +1,29 @@
-//! The run of one switch and one replica.
+//! The world of one switch and one replica, event by event.
 ghost use Rattle.std.specs.Prelude.{ℕ, ◌≡◌, ◌<◌, ◌≤◌, false, Some, length, option_map, slice_get, IfOk, OnOk};
 ghost use Rattle.rp_base.specs.declared.event.Event.{Event as EventValue};
 ghost use Rattle.proto_data.specs.declared.terms.Mode.{Mode as ModeValue};
 ghost use Rattle.proto_model.specs.World.{opened};
 ghost use Rattle.proto_model.specs.EndLines.{end_lines};
 ghost use Rattle.rp_frame.specs.Spelling.{spelling};
-ghost use Rattle.rp_world.specs.Running.{stepped, shown};
+ghost use Rattle.rp_world.specs.AppWorld.{stepped, shown};
 ghost use Rattle.rp_world.specs.OneEach.{IsSound, IsGoing};
 
 use crate::closing::closing_lines;
 use crate::frames::Frames;
 use crate::history::History;
-use crate::replica::Replica;
 use crate::step_notes::{Booked, note_store, note_switch, refused};
 use crate::switch::Switch;
 use proto_data::{FRAMES, MESSAGES};
-use proto_model::{Chain, Config, Terms};
+use proto_model::{Chain, Config, Input, Terms};
 use rp_app::App;
 use rp_base::{Bytes, Lines, NoMemory, Node, Packet, Refusal};
 use std::alloc::Global;
 use std::marker::Model;
+use store_replica::Replica;
 
 /// The world of one switch and one replica, both running from the start, whose clocks stand at 0.
 #[derive(Drop)]
-pub(crate) struct Run {
+pub(crate) struct OneEach {
     terms: Terms,
     switch: Switch,
     replica: Replica,
@@ -37,21 +37,24 @@ pub(crate) struct Run {
     alloc: Global,
 }
 
-impl Model for Run {
+impl Model for OneEach {
+    ghost use Rattle.std.specs.Prelude.{◌≤◌};
     ghost use Rattle.proto_model.specs.World.{World as WorldValue};
     ghost use Rattle.rp_world.specs.OneEach.{one_each};
 
     ghost Value = { WorldValue };
 
-    ghost view = { λ r. one_each r.terms r.switch r.replica r.book.items r.frames r.passed r.event r.history };
+    ghost view = { λ r. one_each r.terms r.switch r.replica.replica r.book.items r.frames r.passed r.event r.history };
+
+    ghost invariant = { λ r. r.replica.turns ≤ r.event };
 }
 
-impl Run {
+impl OneEach {
     /// The world before its first event.
     ///
     /// # Errors
     /// `NoMemory`.
-    pub(crate) fn open(alloc: Global, cells: u16, terms: &Terms) -> Result<Run, NoMemory>
+    pub(crate) fn open(alloc: Global, cells: u16, terms: &Terms) -> Result<OneEach, NoMemory>
         requires mode { terms.now.mode ≡ ModeValue.Strict }
         requires term { terms.now.t_switch ≤ 1000000 }
         ensures made { IfOk result (λ made. made ≡ opened cells (record { switches = 1; replicas = 1; terms = terms.now; linked = false })) }
@@ -60,10 +63,10 @@ impl Run {
         let mut chain = Chain::new();
         chain.push(0);
         let config = Config { number: 1, chain };
-        Ok(Run {
+        Ok(OneEach {
             terms: *terms,
             switch: Switch::open(alloc, 0, 1, terms, &config)?,
-            replica: Replica::open(alloc, cells, *terms),
+            replica: Replica::open(alloc, 0, cells, terms, &config)?,
             book: Vec::new(alloc),
             frames: Frames::new(alloc),
             passed: 0,
@@ -98,7 +101,7 @@ impl Run {
     {
         let lines = closing_lines(
             self.alloc,
-            self.replica.records(),
+            self.replica.leases(),
             &self.book,
             self.history.items(),
         )?;
@@ -108,7 +111,7 @@ impl Run {
     /// A packet is fed to the switch.
     ///
     /// # Errors
-    /// `NoMemory`; then nothing is said of the run.
+    /// `NoMemory`; then nothing is said of the world.
     pub(crate) fn feed<A: App>(
         &mut self,
         app: &A,
@@ -144,7 +147,7 @@ impl Run {
     /// The next frame arrives at its addressee.
     ///
     /// # Errors
-    /// `NoMemory`; then nothing is said of the run.
+    /// `NoMemory`; then nothing is said of the world.
     pub(crate) fn next<A: App>(&mut self, app: &A) -> Result<Lines, NoMemory>
         requires going { IsGoing (A.meaning app.now) self.old }
         requires count { self.old.event < 1000000000 }
@@ -171,15 +174,15 @@ impl Run {
                 )
             }
             Node::Replica(_) => {
-                let did = self.replica.on_msg(0, &msg)?;
-                note_store(
+                let did = self.replica.on(0, &Input::Msg(msg))?;
+                return note_store(
                     self.alloc,
                     self.event,
                     0,
                     &mut self.frames,
                     &mut self.book,
                     did,
-                )
+                );
             }
             Node::Master => unreachable!(),
         }
