@@ -1,5 +1,5 @@
 -- A program that is loaded.
-use Rattle.std.proofs.Common.{◌≡◌, List, ℕ, ◌<◌, ◌≤◌, true, false, nat_lt, ap, refl, sym, ◌∙◌, arith, length, take, length-take, subst, Option, Some, None, Ok, Err, IfSome}
+use Rattle.std.proofs.Common.{◌≡◌, List, ℕ, ◌<◌, ◌≤◌, true, false, nat_lt, ap, refl, sym, ◌∙◌, arith, length, take, length-take, subst, Option, Some, None, Err, IfSome}
 use Rattle.std.proofs.lemmas.Bool.{ltb-true, ltb-false, lt-ltb}
 use Rattle.std.proofs.lemmas.List.{take_all}
 use Rattle.rp_base.specs.Outside.{Loaded}

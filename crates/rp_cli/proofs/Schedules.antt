@@ -1,12 +1,11 @@
 -- A schedule that is loaded.
-use Rattle.std.proofs.Common.{◌≡◌, List, ℕ, ◌<◌, ◌≤◌, true, false, nat_lt, ap, refl, sym, ◌∙◌, arith, length, take, length-take, subst, Option, Some, None, Result, Err, IfSome}
+use Rattle.std.proofs.Common.{◌≡◌, List, ℕ, ◌<◌, ◌≤◌, true, false, nat_lt, ap, refl, sym, ◌∙◌, arith, length, take, length-take, subst, Option, Some, None, Result, IfSome}
 use Rattle.std.proofs.lemmas.Bool.{ltb-true, ltb-false, lt-ltb}
 use Rattle.std.proofs.lemmas.List.{take_all}
 use Rattle.rp_base.specs.Outside.{Loaded}
 use Rattle.sched_lang.specs.declared.schedule.Schedule.{Schedule}
 use Rattle.sched_lang.specs.Reading.{Fault, schedule_of}
 use Rattle.rp_cli.specs.declared.status.Status.{Status}
-use Rattle.rp_cli.specs.declared.status.Status.TheVariants as status
 use Rattle.rp_cli.specs.Top.{Loads, read_or_refused, schedule_in}
 
 -- the front that is loaded reads as the whole text
