@@ -3,6 +3,7 @@ use Rattle.std.specs.Prelude.{ℕ, zero, suc, ◌==◌, ◌≡◌, ◌≤◌, Li
 use Rattle.lazy_snap.specs.declared.kept.Kept.{Kept}
 use Rattle.lazy_snap.specs.Snap.{Snap}
 
+-- the kept value where it was kept this turn, else the cell
 abbrev pub picked_one : ℕ → Kept → ℕ → ℕ
 picked_one turn k c = if k.turn == turn then k.value else c
 
@@ -18,6 +19,7 @@ keep_at turn at value [] = []
 keep_at turn zero value (k ∷ ks) = (if k.turn == turn then k else record { turn = turn; value = value }) ∷ ks
 keep_at turn (suc at) value (k ∷ ks) = k ∷ keep_at turn at value ks
 
+-- cells with what is kept of them, as snapshots are seen
 abbrev pub seen : List ℕ → List Kept → ℕ → Option ℕ → Snap
 seen cells kept turn round = record { cells = cells; round = option_map (λ n. (n, picked turn kept cells)) round }
 

@@ -3,6 +3,7 @@ use Rattle.std.specs.Prelude.{ℕ, ◌-◌, ◌<◌, ◌≤◌, ◌==◌, ◌≡
 use Rattle.link_arena.specs.Lists.{find, without}
 use Rattle.mirror_buf.specs.declared.kept.Kept.{Kept}
 
+-- a copy with its name
 abbrev pub Named : Type 0
 Named = ℕ × Kept
 
@@ -60,6 +61,7 @@ without_covered s slot upto = record s { copies = filter (λ c. not (is_covered 
 abbrev pub without_slot : Copies → ℕ → Copies
 without_slot s slot = record s { copies = filter (λ c. not (is_of slot c)) s.copies }
 
+-- a copy once it was sent now
 abbrev pub sent_at : ℕ → Named → Named
 sent_at now c = (c.0, record c.1 { sent = now })
 

@@ -4,6 +4,7 @@ use Rattle.link_arena.specs.Lists.{Lists, find, or_else}
 use Rattle.mirror_buf.specs.Copies.{Copies, Named, is_of, first_of_greatest}
 use Rattle.mirror_buf.specs.declared.kept.Kept.{Kept}
 
+-- holds of each copy of a list
 abbrev pub Each : (Named → Type 0) → List Named → Type 0
 Each P [] = ⊤
 Each P (c ∷ cs) = P c × Each P cs
@@ -13,15 +14,19 @@ abbrev pub Ordered : (Named → Named → Type 0) → List Named → Type 0
 Ordered R [] = ⊤
 Ordered R (c ∷ cs) = Each (R c) cs × Ordered R cs
 
+-- two copies have two names
 abbrev pub Apart : Named → Named → Type 0
 Apart c d = c.0 ≢ d.0
 
+-- one has a lower number than the other
 abbrev pub Before : Named → Named → Type 0
 Before c d = c.1.number < d.1.number
 
+-- one was last sent no later than the other
 abbrev pub Sooner : Named → Named → Type 0
 Sooner c d = c.1.sent ≤ d.1.sent
 
+-- the list of this number; none is empty
 abbrev pub list_at : List (List Named) → ℕ → List Named
 list_at lists l = slice_index_or lists l []
 
@@ -29,9 +34,11 @@ list_at lists l = slice_index_or lists l []
 abbrev pub all : Lists Kept → List Named
 all s = list_at s.b 0
 
+-- an arena of copies as a buffer: all copies, and as many slots as it has lists of kind A
 abbrev pub seen : Lists Kept → Copies
 seen s = record { copies = all s; slots = length s.a }
 
+-- a copy, where it is of this slot
 abbrev pub if_of : ℕ → Option Kept → Option Kept
 if_of slot None = None
 if_of slot (Some k) = if k.slot == slot then Some k else None
@@ -55,6 +62,7 @@ abbrev pub within : Option ℕ → ℕ → Bool
 within None number = true
 within (Some limit) number = nat_le number limit
 
+-- of this slot, with a number within the limit
 abbrev pub is_taken : ℕ → Option ℕ → Named → Bool
 is_taken slot limit c = within limit c.1.number && is_of slot c
 

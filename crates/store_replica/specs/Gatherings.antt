@@ -6,6 +6,7 @@ use Rattle.proto_model.specs.Slot.{chunk_count, chunk_of}
 use Rattle.proto_model.specs.ReplicaState.{Gathered, gathering_of, with_part}
 use Rattle.store_replica.specs.declared.gathering.Part.{Part}
 
+-- how many cells a flow has, and what came of each flow's round
 pub record Gatherings : Type 0 where
   pub cell_count : ℕ
   pub table : Table Gathered
@@ -14,6 +15,7 @@ pub record Gatherings : Type 0 where
 abbrev pub gathered_with : Table Gathered → Part → Gathered
 gathered_with table p = with_part (gathering_of p.epoch p.round p.chunks (get table p.key)) p.chunk p.cells
 
+-- the gatherings once a chunk came
 abbrev pub after_part : Gatherings → Part → Gatherings
 after_part g p = record g { table = put g.table p.key (gathered_with g.table p) }
 
@@ -23,6 +25,7 @@ pub record IsPart (cells : ℕ) (p : Part) : Type 0 where
   pub count : p.chunks ≡ chunk_count cells
   pub long : length p.cells ≡ length (chunk_of p.chunk (zeros cells))
 
+-- a chunk that came has so many cells
 abbrev pub HasLength : ℕ → Option (List ℕ) → Type 0
 HasLength n None = Unit {0}
 HasLength n (Some cells) = length cells ≡ n
@@ -38,5 +41,6 @@ pub record IsGathering (cells : ℕ) (g : Gathered) : Type 0 where
   pub size : length g.parts ≡ chunk_count cells
   pub chunks : AreChunks cells g.parts
 
+-- each gathering is one of a flow with so many cells
 abbrev pub AreGatherings : ℕ → Table Gathered → Type 0
 AreGatherings cells table = (key : Key) (g : Gathered) → get table key ≡ Some g → IsGathering cells g

@@ -13,6 +13,7 @@ use Rattle.store_replica.specs.Gatherings.{gathered_with, IsPart}
 abbrev pub part_row : Replica → Part → StoreRow
 part_row s p = gathered_row p.key p.epoch p.round (gathered_with s.gathered p) (whole_cells (gathered_with s.gathered p))
 
+-- the row of the definitions that a row of the code is
 abbrev pub row_of : Replica → Row → StoreRow
 row_of s (Row.Loses cause) = Loses cause
 row_of s (Row.Answers to body) = Answers to body

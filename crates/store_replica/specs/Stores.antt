@@ -10,11 +10,13 @@ use Rattle.proto_model.specs.Effects.{added}
 use Rattle.proto_model.specs.ReplicaState.{Replica, StoreDid, open_replica}
 use Rattle.proto_model.specs.ReplicaRows.{store_step}
 
+-- a replica, how often it was called, and whether memory was refused
 pub record Running : Type 0 where
   pub replica : Replica
   pub turns : ℕ
   pub failed : Bool
 
+-- a replica before its first call
 abbrev pub opened : ℕ → ℕ → Terms → Config → Running
 opened me cells terms config = record { replica = open_replica me cells terms config; turns = 0; failed = false }
 

@@ -3,6 +3,7 @@ use Rattle.std.specs.Prelude.{ℕ, ◌<◌, ⊤}
 use Rattle.switch_slot.specs.declared.lease.SlotLease.{SlotLease}
 use Rattle.proto_model.specs.Slot.{Lease, Idle, Asking, Held, Lapsed}
 
+-- the lease of the definitions that a typed lease is
 abbrev pub lease_of : SlotLease → Lease
 lease_of (SlotLease.Idle i) = Lease.Idle
 lease_of (SlotLease.Asking a) = Lease.Asking a.nonce a.first

@@ -9,9 +9,11 @@ pub record CellsAt : Type 0 where
   pub cells : List ℕ
   pub round : Option Round
 
+-- a round of snapshots that began at this moment, with its next chunk
 abbrev pub round_from : ℕ → ℕ → ℕ × List ℕ → Round
 round_from begun chunk r = record { number = r.0; begun = begun; chunk = chunk; cells = r.1 }
 
+-- the same of cells as snapshots see them
 abbrev pub seen : Snap → ℕ → ℕ → CellsAt
 seen snap begun chunk = record { cells = snap.cells; round = option_map (round_from begun chunk) snap.round }
 
@@ -33,6 +35,7 @@ abbrev pub IsNext : CellsAt → Option Round → Type 0
 IsNext s None = ⊤
 IsNext s (Some r) = (length r.cells ≡ length s.cells) × (r.chunk < chunk_count (length r.cells))
 
+-- these cells and their round are those of a slot
 pub record IsSlotCells (s : CellsAt) : Type 0 where
   pub few : length s.cells ≤ 256
   pub next : IsNext s s.round
