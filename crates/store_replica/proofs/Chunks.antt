@@ -1,12 +1,10 @@
 -- Chunks of 32 cells: none of them at first, one more, and all of them.
-use Rattle.std.proofs.Common.{◌≡◌, ℕ, zero, suc, ◌+◌, ◌-◌, ◌*◌, ◌/◌, ◌<◌, ◌≤◌, List, [], ◌∷◌, ◌++◌, length, map, Option, Some, None, true, false, Bool, arith, refl, sym, ◌∙◌, ap, set, take, drop, length-append, min, max, subst}
-use Rattle.std.specs.Prelude.{replicate, is_some, ◌&&◌}
+use Rattle.std.proofs.Common.{◌≡◌, ℕ, zero, suc, ◌+◌, ◌-◌, ◌*◌, ◌/◌, ◌<◌, ◌≤◌, List, [], ◌∷◌, length, map, Option, Some, None, true, arith, refl, sym, ◌∙◌, ap, set, length-append, min, max, subst}
+use Rattle.std.specs.Prelude.{replicate, is_some}
 use Rattle.std.specs.List.{list_all, concat}
 use Rattle.std.proofs.lemmas.Bool.{and_parts, false≢true}
-use Rattle.std.proofs.lemmas.List.{length-replicate}
 use Rattle.std.proofs.Math.Nat.{mul-div-le, lt-div-mul-add}
-use Rattle.rp_app.specs.Application.{zeros}
-use Rattle.proto_model.specs.Slot.{chunk_count, chunk_of}
+use Rattle.proto_model.specs.Slot.{chunk_count}
 use Rattle.proto_model.specs.ReplicaState.{part_cells}
 use Rattle.store_replica.specs.Gatherings.{AreChunks, HasLength}
 

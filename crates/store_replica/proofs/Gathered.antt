@@ -1,10 +1,9 @@
 -- What is gathered fits the cells of a flow, whatever chunk of it comes.
-use Rattle.std.proofs.Common.{◌≡◌, ℕ, ◌*◌, ◌-◌, ◌+◌, ◌<◌, ◌/◌, List, length, map, Option, Some, None, true, false, Bool, arith, refl, sym, ◌∙◌, ap, take, drop, min, max, set, subst, MutBor, Result, Ok, Err}
-use Rattle.std.specs.Prelude.{replicate, is_some, ◌==◌, ◌&&◌, if◌then◌else◌, nat_lt}
+use Rattle.std.proofs.Common.{◌≡◌, ℕ, ◌*◌, List, length, map, Option, Some, None, true, false, Bool, arith, refl, sym, ◌∙◌, ap, drop, subst, MutBor}
+use Rattle.std.specs.Prelude.{is_some, ◌==◌, ◌&&◌, if◌then◌else◌, nat_lt}
 use Rattle.std.specs.List.{list_all, concat}
 use Rattle.std.specs.Option.{IfSome, OnSome}
-use Rattle.std.specs.Result.{IfOk}
-use Rattle.std.proofs.lemmas.Bool.{and_parts, and_from, ltb-true}
+use Rattle.std.proofs.lemmas.Bool.{and_parts, ltb-true}
 use Rattle.std.proofs.lemmas.List.{length-replicate, length-take, length-set}
 use Rattle.std.proofs.Common.{length-drop, eqb-true}
 use Rattle.rp_app.specs.Application.{zeros}
@@ -13,8 +12,10 @@ use Rattle.key_table.proofs.Tables.{same_key-true, get-put_same, get-put_other, 
 use Rattle.proto_model.specs.Slot.{chunk_count, chunk_of}
 use Rattle.proto_model.specs.ReplicaState.{Gathered, gathering_of, no_parts, part_cells, whole_cells, with_part}
 use Rattle.proto_model.specs.ReplicaRows.{chunk_fits}
-use Rattle.store_replica.specs.declared.gathering.Part.{Part}
-use Rattle.store_replica.specs.Gatherings.{AreGatherings, Gatherings, IsGathering, IsPart, after_part, gathered_with}
+use Rattle.store_replica.specs.declared.part.Part.{Part}
+use Rattle.snap_mode.specs.declared.gather.Gathered.{Gathered as Answer}
+use Rattle.snap_mode.specs.Rounds.{told}
+use Rattle.store_replica.specs.Gatherings.{AreGatherings, Gatherings, HasWhole, IsGathering, IsPart, after_part, gathered_with}
 use Rattle.store_replica.proofs.Chunks.{all_there, cells_at, none_there, one_more}
 
 -- how many cells a chunk has
@@ -70,14 +71,28 @@ whole_long cells g h = by (list_all (λ p. is_some p) g.parts) refl
     by true all = all_there cells g.parts all h.chunks
     by false all = tt
 
+-- ---- what is answered
+
+-- the cells of a whole round, whatever is answered
+pub answer_long : (n m : ℕ) (g : Gathered) (got : Answer) → got ≡ told (whole_cells g) → IfSome (whole_cells g) (λ all. length all ≡ n) → n ≡ m → HasWhole m got
+answer_long n m g got is long same = subst (λ k. HasWhole k got) same (subst (HasWhole n) (sym is) (by (whole_cells g) long))
+  where
+    by : (o : Option (List ℕ)) → IfSome o (λ all. length all ≡ n) → HasWhole n (told o)
+    by None long = tt
+    by (Some cells) long = long
+
 -- ---- the table
 
-same_begun : (epoch round chunks : ℕ) → gathering_of epoch round chunks (Some (no_parts epoch round chunks)) ≡ no_parts epoch round chunks
-same_begun epoch round chunks = by ((epoch == epoch) && (round == round))
+-- a gathering of which nothing came goes on as one of any round
+same_begun : (epoch round chunks : ℕ) → gathering_of epoch round chunks (Some (no_parts 0 0 chunks)) ≡ no_parts epoch round chunks
+same_begun epoch round chunks = by ((0 == epoch) && (0 == round)) refl
   where
-    by : (b : Bool) → (if b then no_parts epoch round chunks else no_parts epoch round chunks) ≡ no_parts epoch round chunks
-    by true = refl
-    by false = refl
+    by : (b : Bool) → (0 == epoch) && (0 == round) ≡ b → (if b then no_parts 0 0 chunks else no_parts epoch round chunks) ≡ no_parts epoch round chunks
+    by true is =
+        let e : 0 ≡ epoch = eqb-true 0 epoch (and_parts (0 == epoch) (0 == round) is).0 in
+        let r : 0 ≡ round = eqb-true 0 round (and_parts (0 == epoch) (0 == round) is).1 in
+        λ i. no_parts (e i) (r i) chunks
+    by false is = refl
 
 -- what is written through a loan that was made
 on_some : {V P : Type 0} (o : Option V) (b : V) → o ≡ Some b → OnSome o P → P
@@ -85,25 +100,28 @@ on_some None b is h = absurd cc
 on_some (Some x) b is h = h
 
 module _ (cells : ℕ) (table : Table Gathered) (p : Part) (is : IsPart cells p) (h : AreGatherings cells table) where
-  -- the gathering that is there already is as large as the chunk says
-  pub size_there : (g : Gathered) → Some g ≡ get table p.key → length g.parts ≡ p.chunks
-  size_there g there = (h p.key g (sym there)).size ∙ sym is.count
+  -- the gathering that is there, with the chunk
+  pub with_there : (old new : Gathered) → Some old ≡ get table p.key → new ≡ with_part (gathering_of p.epoch p.round p.chunks (Some old)) p.chunk p.cells → new ≡ gathered_with table p
+  with_there old new there taken = taken ∙ ap (λ o. with_part (gathering_of p.epoch p.round p.chunks o) p.chunk p.cells) there
 
   -- a chunk is kept in its place
   pub kept_there : (lent : Table Gathered) (o : Option (MutBor Gathered)) (b : MutBor Gathered) (new : Gathered) → o ≡ Some b → OnSome o (lent ≡ put table p.key new) → Some b.now ≡ get table p.key →
       new ≡ with_part (gathering_of p.epoch p.round p.chunks (Some b.now)) p.chunk p.cells → lent ≡ put table p.key (gathered_with table p)
-  kept_there lent o b new made holds there taken =
-      on_some o b made holds
-      ∙ ap (λ g. put table p.key g) (taken ∙ ap (λ o. with_part (gathering_of p.epoch p.round p.chunks o) p.chunk p.cells) there)
+  kept_there lent o b new made holds there taken = on_some o b made holds ∙ ap (λ g. put table p.key g) (with_there b.now new there taken)
 
   -- likewise in a new one
-  pub kept_new : (new begun : Gathered) → None ≡ get table p.key → begun ≡ no_parts p.epoch p.round p.chunks →
+  pub with_new : (begun new : Gathered) → None ≡ get table p.key → begun ≡ no_parts 0 0 (chunk_count cells) →
       new ≡ with_part (gathering_of p.epoch p.round p.chunks (Some begun)) p.chunk p.cells → new ≡ gathered_with table p
-  kept_new new begun none fresh taken =
+  with_new begun new none fresh taken =
       taken
-      ∙ ap (λ g. with_part (gathering_of p.epoch p.round p.chunks (Some g)) p.chunk p.cells) fresh
+      ∙ ap (λ g. with_part (gathering_of p.epoch p.round p.chunks (Some g)) p.chunk p.cells) (fresh ∙ ap (λ n. no_parts 0 0 n) (sym is.count))
       ∙ ap (λ g. with_part g p.chunk p.cells) (same_begun p.epoch p.round p.chunks)
       ∙ ap (λ o. with_part (gathering_of p.epoch p.round p.chunks o) p.chunk p.cells) none
+
+  -- what is answered has as many cells as a flow
+  pub told_long : (new : Gathered) (got : Answer) (m : ℕ) → new ≡ gathered_with table p → got ≡ told (whole_cells new) → cells ≡ m → HasWhole m got
+  told_long new got m made answer same =
+      answer_long cells m new got answer (whole_long cells new (subst (IsGathering cells) (sym made) (is_gathered cells table p is h))) same
 
   -- so all gatherings fit afterwards
   pub all_kept : (new : Table Gathered) → new ≡ put table p.key (gathered_with table p) → AreGatherings cells new
@@ -113,13 +131,3 @@ module _ (cells : ℕ) (table : Table Gathered) (p : Part) (is : IsPart cells p)
 pub after_is : (cells : ℕ) (table new : Table Gathered) (s : Gatherings) (p : Part) → record { cell_count = cells; table = table } ≡ s → new ≡ put table p.key (gathered_with table p) →
     record { cell_count = cells; table = new } ≡ after_part s p
 after_is cells table new s p view made = subst (λ (s : Gatherings). record { cell_count = cells; table = new } ≡ after_part s p) view (ap (λ t. record { cell_count = cells; table = t }) made)
-
--- the gathering that is found then is the one with the chunk
-pub found_after : (s g : Gatherings) (p : Part) (o : Option Gathered) → g ≡ after_part s p → o ≡ get g.table p.key → o ≡ Some (gathered_with s.table p)
-found_after s g p o made found = found ∙ ap (λ (g : Gatherings). get g.table p.key) made ∙ get-put_same s.table p.key (gathered_with s.table p)
-
--- the cells of a whole round, in whatever is answered
-pub answer_long : {E : Type 0} (r : Result (Option (List ℕ)) E) (g : Gathered) (n m : ℕ) → IfOk r (λ cells. cells ≡ whole_cells g) → IfSome (whole_cells g) (λ all. length all ≡ n) → n ≡ m →
-    IfOk r (λ whole. IfSome whole (λ cells. length cells ≡ m))
-answer_long (Ok w) g n m is long same = subst (λ k. IfSome w (λ cells. length cells ≡ k)) same (subst (λ (o : Option (List ℕ)). IfSome o (λ cells. length cells ≡ n)) (sym is) long)
-answer_long (Err e) g n m is long same = tt

@@ -1,6 +1,5 @@
--- Lists that are emptied from the front, cut to their end, and gone through.
-use Rattle.std.proofs.Common.{◌≡◌, ℕ, zero, suc, ◌+◌, ◌-◌, ◌<◌, List, [], ◌∷◌, ◌++◌, length, refl, sym, ◌∙◌, ap, arith, set, take, drop, min, slice_get, Option, Some, None, ◌≤◌}
-use Rattle.std.specs.Prelude.{replicate}
+-- Lists that are cut to their end, and gone through.
+use Rattle.std.proofs.Common.{◌≡◌, ℕ, zero, suc, ◌+◌, ◌-◌, List, [], ◌∷◌, ◌++◌, length, refl, sym, ◌∙◌, ap, arith, take, drop, slice_get, Some, None, ◌≤◌}
 use Rattle.std.proofs.lemmas.List.{append-nil, append_assoc, drop_min, length-take}
 use Rattle.std.proofs.Math.Seq.{take-add}
 use Rattle.proto_data.specs.declared.message.Body.{Body}
@@ -8,16 +7,6 @@ use Rattle.proto_data.specs.declared.message.Entry.{Entry}
 use Rattle.proto_data.specs.declared.message.Msg.{Msg}
 use Rattle.proto_model.specs.ReplicaState.{Replica, to_successor}
 use Rattle.proto_model.specs.ReplicaRows.{forwards}
-use Rattle.std.proofs.Math.Numerals.{add-one}
-
-emptied_suc : {A : Type 0} (xs : List A) (i : ℕ) (v : A) → i < length xs → set (replicate i v ++ drop i xs) i v ≡ replicate (suc i) v ++ drop (suc i) xs
-emptied_suc [] i v low = absurd (omega (arith, low))
-emptied_suc (x ∷ xs) zero v low = refl
-emptied_suc (x ∷ xs) (suc i) v low = ap (λ ys. v ∷ ys) (emptied_suc xs i v (omega (arith, low)))
-
--- one more place of a list is emptied
-pub emptied_next : {A : Type 0} (xs : List A) (i : ℕ) (v : A) → i < length xs → set (replicate i v ++ drop i xs) i v ≡ replicate (i + 1) v ++ drop (i + 1) xs
-emptied_next xs i v low = emptied_suc xs i v low ∙ ap (λ j. replicate j v ++ drop j xs) (sym (add-one i))
 
 -- all but the first n, by what is kept
 pub kept_past : {A : Type 0} (n : ℕ) (xs : List A) → drop (length xs - (length xs - n)) xs ≡ drop n xs

@@ -1,5 +1,5 @@
 -- What a picked row comes to, and that a step keeps the replica where its book leaves it.
-use Rattle.std.proofs.Common.{◌≡◌, ℕ, ◌+◌, ◌≤◌, List, [], ◌++◌, length, Option, Some, None, refl, sym, ◌∙◌, ap, subst, true, false, Bool, arith, eq-eqb}
+use Rattle.std.proofs.Common.{◌≡◌, ℕ, ◌+◌, ◌≤◌, List, [], Option, Some, None, refl, sym, subst, true, Bool, arith, eq-eqb}
 use Rattle.std.specs.Prelude.{◌==◌}
 use Rattle.rp_base.specs.declared.node.Node.{Node}
 use Rattle.proto_data.specs.declared.message.Entry.{Entry}
@@ -8,10 +8,10 @@ use Rattle.proto_data.specs.declared.message.Record.{Record}
 use Rattle.key_table.specs.Table.{Key, put}
 use Rattle.proto_model.specs.Records.{Booked, fits_at}
 use Rattle.proto_model.specs.ReplicaState.{Gathered, Replica, StoreDid, StoreStep, store_sent, whole_cells}
-use Rattle.proto_model.specs.ReplicaRows.{StoreRow, appended, covered, gathered_row, snap_row, store_perform, store_step}
+use Rattle.proto_model.specs.ReplicaRows.{appended, covered, gathered_row, snap_row, store_perform, store_step}
 use Rattle.proto_model.specs.Stands.{Stands}
 use Rattle.proto_model.proofs.StoreStands.{step_stands}
-use Rattle.store_replica.specs.declared.gathering.Part.{Part}
+use Rattle.store_replica.specs.declared.part.Part.{Part}
 use Rattle.store_replica.specs.Gatherings.{gathered_with}
 use Rattle.store_replica.specs.Rows.{part_row}
 use Rattle.store_replica.specs.Stores.{booked}

@@ -4,7 +4,8 @@ use Rattle.rp_app.specs.Application.{zeros}
 use Rattle.key_table.specs.Table.{Key, Table, get, put}
 use Rattle.proto_model.specs.Slot.{chunk_count, chunk_of}
 use Rattle.proto_model.specs.ReplicaState.{Gathered, gathering_of, with_part}
-use Rattle.store_replica.specs.declared.gathering.Part.{Part}
+use Rattle.snap_mode.specs.declared.gather.Gathered.{Gathered as Answer}
+use Rattle.store_replica.specs.declared.part.Part.{Part}
 
 -- how many cells a flow has, and what came of each flow's round
 pub record Gatherings : Type 0 where
@@ -29,6 +30,11 @@ pub record IsPart (cells : ℕ) (p : Part) : Type 0 where
 abbrev pub HasLength : ℕ → Option (List ℕ) → Type 0
 HasLength n None = Unit {0}
 HasLength n (Some cells) = length cells ≡ n
+
+-- the cells of a whole round are so many
+abbrev pub HasWhole : ℕ → Answer → Type 0
+HasWhole n Answer.More = Unit {0}
+HasWhole n (Answer.Whole cells) = length cells ≡ n
 
 -- so many cells in chunks of 32, the last of which has what is left
 abbrev pub AreChunks : ℕ → List (Option (List ℕ)) → Type 0

@@ -1,11 +1,10 @@
 -- What a picked row is in the words of the definitions, and what holds of what it appends.
 use Rattle.std.specs.Prelude.{◌<◌, ◌≤◌, ℕ, ◌-◌, drop, ◌≡◌, true}
 use Rattle.proto_data.specs.declared.message.Body.{Body}
-use Rattle.key_table.specs.Table.{get}
 use Rattle.proto_model.specs.Records.{entry_fits, fits_at}
 use Rattle.proto_model.specs.ReplicaState.{Replica, StoreStep, record_at, store_sent, to_predecessor, whole_cells}
 use Rattle.proto_model.specs.ReplicaRows.{StoreRow, Loses, Answers, Echoes, Appends, Commits, Adopts, Resends, gathered_row}
-use Rattle.store_replica.specs.declared.gathering.Part.{Part}
+use Rattle.store_replica.specs.declared.part.Part.{Part}
 use Rattle.store_replica.specs.declared.row.Row.{Row}
 use Rattle.store_replica.specs.Gatherings.{gathered_with, IsPart}
 

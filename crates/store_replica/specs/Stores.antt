@@ -1,5 +1,5 @@
 -- A replica as it runs: with the number of its calls, and whether memory was refused in one of them.
-use Rattle.std.specs.Prelude.{ℕ, ◌+◌, ◌≡◌, ◌≤◌, Bool, false, Some, List, ◌++◌, [], ◌∷◌}
+use Rattle.std.specs.Prelude.{ℕ, ◌+◌, ◌≡◌, ◌≤◌, Bool, false, Some, List, ◌++◌}
 use Rattle.proto_data.specs.declared.message.Config.{Config}
 use Rattle.proto_data.specs.declared.message.Input.{Input}
 use Rattle.proto_data.specs.declared.message.Record.{Record}

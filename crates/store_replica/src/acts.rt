@@ -5,7 +5,7 @@ ghost use Rattle.proto_data.specs.declared.limits.TheConstants.{MESSAGES};
 
 use crate::copies::copy_entry;
 use crate::did::{Msgs, StoreDid};
-use crate::gathering::Part;
+use crate::part::Part;
 use crate::row::Row;
 use crate::state::ReplicaState;
 use proto_data::MESSAGES;

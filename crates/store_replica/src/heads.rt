@@ -6,7 +6,7 @@ ghost use Rattle.proto_model.specs.Slot.{chunk_count, chunk_of};
 ghost use Rattle.proto_model.specs.Records.{delta_within};
 ghost use Rattle.proto_model.specs.ReplicaRows.{carried_mark, chunk_fits, switch_of};
 
-use crate::gathering::Part;
+use crate::part::Part;
 use crate::row::Row;
 use crate::state::ReplicaState;
 use proto_data::RECORDS;

@@ -7,16 +7,13 @@ mod chain;
 mod copies;
 mod did;
 mod echoes;
-mod gathering;
 mod gatherings;
 mod heads;
 mod messages;
+mod part;
 mod replica;
 mod row;
 mod state;
 
 pub use did::{Msgs, StoreDid};
 pub use replica::Replica;
-
-#[cfg(test)]
-mod tests;

@@ -2,7 +2,7 @@
 ghost use Rattle.std.specs.Prelude.{◌≡◌, ◌<◌, ◌^◌, true, IfOk};
 
 use crate::copies::{copy_config, copy_entry};
-use crate::gathering::Part;
+use crate::part::Part;
 use crate::row::Row;
 use crate::state::ReplicaState;
 use proto_model::{Body, Carried, Config, Entry, Input};

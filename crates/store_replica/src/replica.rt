@@ -32,7 +32,7 @@ impl Model for Replica {
 }
 
 impl Replica {
-    /// The replica of number `me` before its first entry. Flows have `cells` cells.
+    /// The replica of number `me` before its first entry. Flows have `cells` cells, at most 256.
     ///
     /// # Errors
     /// `NoMemory`.
@@ -43,6 +43,7 @@ impl Replica {
         terms: &Terms,
         config: &Config,
     ) -> Result<Replica, NoMemory>
+        requires { cells ≤ 256 }
         ensures opened { IfOk result (λ made. made ≡ opened me cells terms.now config.now) }
         ensures stands { IfOk result (λ made. Stands made.replica []) }
     {

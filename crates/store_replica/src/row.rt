@@ -2,7 +2,7 @@
 ghost use Rattle.std.specs.Prelude.{◌≡◌, IfOk};
 
 use crate::copies::copy_load;
-use crate::gathering::Part;
+use crate::part::Part;
 use proto_model::{Body, Carried, Config, Echoed, Entry};
 use rp_base::{Lost, NoMemory, Node};
 

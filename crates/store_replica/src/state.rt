@@ -5,7 +5,6 @@ ghost use Rattle.proto_data.specs.declared.message.Config.{Config as ConfigValue
 use crate::chain;
 use crate::copies::copy_config;
 use crate::did::Msgs;
-use crate::gathering::Gathering;
 use crate::gatherings::GatheringTable;
 use circular_buffer::HeapCircularBuffer;
 use lease_table::LeaseTable;
@@ -61,7 +60,7 @@ impl ReplicaState {
     ghost use Rattle.proto_model.specs.ReplicaRows.{with_entry};
     ghost use Rattle.proto_model.specs.Records.{entry_fits};
 
-    /// The replica before its first entry.
+    /// The replica before its first entry. Flows have `cells` cells, at most 256.
     ///
     /// # Errors
     /// `NoMemory`.
@@ -72,6 +71,7 @@ impl ReplicaState {
         terms: &Terms,
         config: &Config,
     ) -> Result<ReplicaState, NoMemory>
+        requires { cells ≤ 256 }
         ensures { IfOk result (λ made. made ≡ open_replica me cells terms.now config.now) }
     {
         let config = copy_config(config)?;

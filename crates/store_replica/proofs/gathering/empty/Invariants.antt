@@ -1,6 +1,0 @@
-use Rattle.std.proofs.Common.{◌≡◌, ◌++◌, None, drop, length}
-use Rattle.std.specs.Prelude.{replicate}
-use Rattle.store_replica.proofs.gathering.empty.Given as goal
-
-abbrev pub invariant-loop-i : goal.invariant-loop-i
-invariant-loop-i l = l.parts ≡ replicate l.i None ++ drop l.i l.fn.parts
