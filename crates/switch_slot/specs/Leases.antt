@@ -1,5 +1,5 @@
 -- What a slot's typed lease is in the protocol, and how it is seen at a moment.
-use Rattle.std.specs.Prelude.{ℕ, ◌<◌, ⊤}
+use Rattle.std.specs.Prelude.{ℕ, ◌+◌, ◌<◌, ⊤}
 use Rattle.switch_slot.specs.declared.lease.SlotLease.{SlotLease}
 use Rattle.proto_model.specs.Slot.{Lease, Idle, Asking, Held, Lapsed}
 
@@ -16,3 +16,17 @@ IsSeenAt moment Idle = ⊤
 IsSeenAt moment (Asking nonce first) = ⊤
 IsSeenAt moment (Held nonce epoch expiry) = moment < expiry
 IsSeenAt moment (Lapsed nonce epoch expiry) = ⊤
+
+-- an Ask whose term isn't over
+abbrev pub IsYoungAsk : ℕ → ℕ → Lease → Type 0
+IsYoungAsk now t_switch Idle = ⊥
+IsYoungAsk now t_switch (Asking nonce first) = now < first + t_switch
+IsYoungAsk now t_switch (Held nonce epoch expiry) = ⊥
+IsYoungAsk now t_switch (Lapsed nonce epoch expiry) = ⊥
+
+-- the lease that a Grant makes of one that is asked for
+abbrev pub granted_lease : ℕ → ℕ → Lease → Lease
+granted_lease t_switch epoch Idle = Idle
+granted_lease t_switch epoch (Asking nonce first) = Held nonce epoch (first + t_switch)
+granted_lease t_switch epoch (Held nonce of expiry) = Held nonce of expiry
+granted_lease t_switch epoch (Lapsed nonce of expiry) = Lapsed nonce of expiry

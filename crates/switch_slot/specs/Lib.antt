@@ -1,3 +1,4 @@
 pub mod Leases
 pub mod Rings
 pub mod Rounds
+pub mod Slots

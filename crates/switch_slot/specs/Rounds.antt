@@ -1,5 +1,5 @@
 -- A slot's cells with the round of snapshots that runs, and the chunks of a round.
-use Rattle.std.specs.Prelude.{ℕ, ◌≡◌, ◌+◌, ◌<◌, ◌≤◌, ⊤, List, Option, Some, None, option_map, length, if◌then◌else◌, nat_lt}
+use Rattle.std.specs.Prelude.{ℕ, ◌≡◌, ◌+◌, ◌<◌, ◌≤◌, ◌^◌, ⊤, List, Option, Some, None, option_map, length, if◌then◌else◌, nat_lt}
 use Rattle.lazy_snap.specs.Snap.{Snap}
 use Rattle.proto_model.specs.Slot.{Round, chunk_count, chunk_of}
 use Rattle.switch_slot.specs.declared.cells.Part.{Part}
@@ -35,7 +35,13 @@ abbrev pub IsNext : CellsAt → Option Round → Type 0
 IsNext s None = ⊤
 IsNext s (Some r) = (length r.cells ≡ length s.cells) × (r.chunk < chunk_count (length r.cells))
 
+-- a round's begin is at most 2^62
+abbrev pub IsEarly : Option Round → Type 0
+IsEarly None = ⊤
+IsEarly (Some r) = r.begun ≤ 2 ^ 62
+
 -- these cells and their round are those of a slot
 pub record IsSlotCells (s : CellsAt) : Type 0 where
   pub few : length s.cells ≤ 256
   pub next : IsNext s s.round
+  pub early : IsEarly s.round

@@ -1,5 +1,5 @@
 //! A slot's cells with the round of snapshots that runs.
-ghost use Rattle.std.specs.Prelude.{◌≡◌, ◌<◌, ◌≤◌, All, None, Some, IfOk, is_some, length, replicate, option_map};
+ghost use Rattle.std.specs.Prelude.{◌≡◌, ◌<◌, ◌≤◌, ◌^◌, All, None, Some, IfOk, IfSome, is_some, length, replicate, option_map};
 ghost use Rattle.rp_app.specs.Application.{cells_named, written};
 ghost use Rattle.switch_slot.specs.Rounds.{advanced, after_part, part_of};
 ghost use Rattle.proto_model.specs.Slot.{Round};
@@ -83,9 +83,10 @@ impl SlotCells {
         write_into(&mut self.snap, delta.as_slice());
     }
 
-    /// The number of the round that runs, with the moment of its begin.
+    /// The number of the round that runs, with the moment of its begin, at most 2^62.
     pub fn round(&self) -> Option<(u64, u64)>
-        ensures { result ≡ option_map (λ (r : Round). (r.number, r.begun)) self.now.round }
+        ensures value { result ≡ option_map (λ (r : Round). (r.number, r.begun)) self.now.round }
+        ensures early { IfSome result (λ r. r.1 ≤ 2 ^ 62) }
     {
         match self.snap.round() {
             Some(round) => Some((round, self.begun)),
@@ -93,9 +94,10 @@ impl SlotCells {
         }
     }
 
-    /// A round of the cells as they are now begins, with this number. None runs.
+    /// A round of the cells as they are now begins, with this number, at `now`, which is at most 2^62. None runs.
     pub fn begin(&mut self, number: u64, now: u64)
-        requires { self.old.round ≡ None }
+        requires idle { self.old.round ≡ None }
+        requires moment { now ≤ 2 ^ 62 }
         ensures { self.new ≡ record self.old { round = Some (record { number = number; begun = now; chunk = 0; cells = self.old.cells }) } }
     {
         let _ = self.snap.begin(number);

@@ -1,7 +1,7 @@
 //! The lease of a slot: one of the typed states, none of which can be copied.
 ghost use Rattle.std.specs.Prelude.{◌≡◌, ◌≤◌, ◌^◌};
 ghost use Rattle.proto_model.specs.Slot.{Asking as AskingValue, Idle as IdleValue, epoch_of, extended, lapsed_lease};
-ghost use Rattle.switch_slot.specs.Leases.{lease_of, IsSeenAt};
+ghost use Rattle.switch_slot.specs.Leases.{lease_of, granted_lease, IsSeenAt, IsYoungAsk};
 
 use lease_state::{Asking, Held, Idle, Lapsed};
 
@@ -66,6 +66,23 @@ impl SlotLease {
         ensures { lease_of result ≡ AskingValue nonce now }
     {
         SlotLease::Asking(self.given_up().ask(now, nonce))
+    }
+
+    /// The lease that was asked for is granted with this epoch, for one term `t_switch` from the first Ask, which isn't over. The term is at
+    /// most 2^62.
+    pub fn grant(self, now: u64, t_switch: u64, epoch: u64) -> SlotLease
+        requires term { t_switch ≤ 2 ^ 62 }
+        requires young { IsYoungAsk now t_switch (lease_of self) }
+        ensures lease { lease_of result ≡ granted_lease t_switch epoch (lease_of self) }
+        ensures seen { IsSeenAt now (lease_of result) }
+    {
+        match self {
+            SlotLease::Asking(asking) => match asking.grant(now, t_switch, epoch) {
+                Ok(held) => SlotLease::Held(held),
+                Err((_late, idle)) => SlotLease::Idle(idle),
+            },
+            other => other,
+        }
     }
 
     /// No lease from now on.

@@ -3,11 +3,14 @@
 
 mod cells;
 mod lease;
+mod own_cells;
 mod ring;
+mod slot;
 
 pub use cells::{Part, SlotCells};
 pub use lease::SlotLease;
 pub use ring::Ring;
+pub use slot::Slot;
 
 #[cfg(test)]
 mod tests;
