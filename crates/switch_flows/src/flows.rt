@@ -30,7 +30,8 @@ pub struct Flow {
 
 /// At most 1,024 slots and 1,024 copies, seen at the latest moment: a lease that has ended by then is Lapsed.
 ///
-/// No call's time grows with the number of slots or copies, but by the copies that it takes out or gives.
+/// No call's time grows with the number of slots or copies, but by the copies that it takes out or gives; `make` moves all slots where their
+/// map grows.
 #[derive(Drop)]
 pub struct Flows {
     rows: IndexMap<Key, Slot>,
@@ -69,8 +70,7 @@ impl Flows {
 
     /// How many flows have a slot.
     pub fn len(&self) -> usize
-        ensures value { result ≡ length self.now.slots }
-        ensures few { result ≤ 1024 }
+        ensures { result ≡ length self.now.slots }
     {
         self.rows.len()
     }
@@ -175,7 +175,7 @@ impl Flows {
     /// Keeps a copy of what is sent at the latest moment. There are fewer than 1,024, and its number is above those of the flow's copies.
     ///
     /// # Errors
-    /// None, by what is required.
+    /// `NoMemory`.
     pub fn keep(&mut self, flow: &Flow, number: u64, delta: Delta) -> Result<(), NoMemory>
         requires place { IsPlaceOf self.old.slots flow.now.key flow.now.place }
         requires room { length self.old.copies < 1024 }

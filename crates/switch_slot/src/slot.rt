@@ -83,8 +83,7 @@ impl Slot {
     /// The flow's cells. A lease was granted.
     pub fn cells(&self) -> &Cells
         requires { is_leased self.now.lease ≡ true }
-        ensures value { result.now ≡ self.now.cells }
-        ensures few { length self.now.cells ≤ 256 }
+        ensures { result.now ≡ self.now.cells }
     {
         self.cells.as_ref().unwrap().cells()
     }
