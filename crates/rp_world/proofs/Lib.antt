@@ -1,4 +1,3 @@
-pub mod SwitchRings
 pub mod Worlds
 pub mod SwitchSound
 pub mod ShownLines
@@ -7,10 +6,6 @@ pub mod RunSound
 mod FrameLengths
 mod SentSizes
 pub mod RunSteps
-pub mod SlotEnds
-pub mod SwitchOver
-pub mod SwitchSteady
-pub mod SwitchSteps
 mod NotesKept
 mod FlowSerials
 mod ClosingShown

@@ -8,7 +8,7 @@ use Rattle.proto_model.specs.ReplicaState.{Replica, StoreStep}
 use Rattle.proto_model.specs.SwitchState.{Switch, SwitchStep}
 use Rattle.rp_world.specs.OneEach.{IsRouted, IsSoundReplica, IsSoundRun}
 use Rattle.proto_safety.proofs.Basics.Eachs.{each_append}
-use Rattle.rp_world.proofs.SwitchSound.{switch-later, IsSoundStep}
+use Rattle.rp_world.proofs.SwitchSound.{IsSoundStep}
 use Rattle.rp_world.proofs.StoreSound.{IsSoundStore}
 
 replica-later : (count m : ℕ) (r : Replica) (book : List Booked) → IsSoundReplica count m r book → IsSoundReplica count (m + 1) r book
@@ -21,13 +21,13 @@ module _ (count : ℕ) (terms : Terms) (s : Switch) (r : Replica) (book : List B
   sound-refused =
       record {
         mode = h.mode;
-        switch = switch-later count event (event + 1) (omega arith) s h.switch;
+        switch = h.switch;
         replica = replica-later count event r book h.replica;
         routed = h.routed;
       }
 
   -- a step of the switch
-  pub sound-switch : (step : SwitchStep) → IsSoundStep count (event + 1) step → IsSoundRun count terms step.0 r book (frames ++ step.1.sent) (event + 1)
+  pub sound-switch : (step : SwitchStep) → IsSoundStep step → IsSoundRun count terms step.0 r book (frames ++ step.1.sent) (event + 1)
   sound-switch step is =
       record {
         mode = h.mode;
@@ -42,7 +42,7 @@ module _ (count : ℕ) (terms : Terms) (s : Switch) (r : Replica) (book : List B
   sound-store step is =
       record {
         mode = h.mode;
-        switch = switch-later count event (event + 1) (omega arith) s h.switch;
+        switch = h.switch;
         replica = is.replica;
         routed = each_append IsRouted frames step.1.sent h.routed is.sent;
       }

@@ -20,6 +20,7 @@ use Rattle.proto_model.specs.World.{World, History}
 use Rattle.proto_model.specs.WorldStep.{WorldStep, world_step}
 use Rattle.rp_world.specs.OneEach.{one_each, IsSound, IsSoundRun, IsGoing}
 use Rattle.store_replica.specs.Stores.{Running as Stepping, stepped as called}
+use Rattle.switch_core.specs.States.{Core, turn}
 use Rattle.proto_safety.specs.Frames.{Grows}
 use Rattle.proto_safety.proofs.Messages.FramesGrow.{event_grows}
 use Rattle.proto_safety.specs.Sizes.{EventSized, Sized}
@@ -35,6 +36,10 @@ use Rattle.rp_world.proofs.StoreSound.{IsSoundStore}
 -- a call of the replica's crate is a step of the replica
 pub replica_step : (old new : Stepping) (did : StoreDid) (now : ℕ) (input : Input) → (new, did) ≡ called old now input → (new.replica, did) ≡ store_step old.replica now input
 replica_step old new did now input is = ap (λ (x : Stepping × StoreDid). (x.0.replica, x.1)) is
+
+-- and a call of the switch's one a step of the switch
+pub switch_turn : (app : Application) (old new : Core) (did : SwitchDid) (now : ℕ) (input : Input) → (new, did) ≡ turn app old now input → (new.state, did) ≡ switch_step app old.state now input
+switch_turn app old new did now input is = ap (λ (x : Core × SwitchDid). (x.0.state, x.1)) is
 
 module _ (app : Application) (terms : Terms) (s : Switch) (r : Replica) (book : List Booked) (frames : List Msg) (passed event : ℕ) (h : History) where
   abbrev w : World
@@ -111,9 +116,9 @@ frames-grow app old new e (Err x) going step = tt
 
 module _ (count : ℕ) (terms : Terms) (s : Switch) (r : Replica) (book : List Booked) (frames : List Msg) (event : ℕ) (h : IsSoundRun count terms s r book frames event) where
   pub switch_step_sound : (app : Application) (input : Input) (s2 : Switch) (did : SwitchDid) (frames2 : List Msg) (result : Result (List Shown) NoMemory) →
-      (s2, did) ≡ switch_step app s 0 input → IsSoundStep count (event + 1) (switch_step app s 0 input) → OnOk result (frames2 ≡ frames ++ did.sent) → OnOk result (IsSoundRun count terms s2 r book frames2 (event + 1))
+      (s2, did) ≡ switch_step app s 0 input → IsSoundStep (switch_step app s 0 input) → OnOk result (frames2 ≡ frames ++ did.sent) → OnOk result (IsSoundRun count terms s2 r book frames2 (event + 1))
   switch_step_sound app input s2 did frames2 (Ok lines) step is sent =
-      let made : IsSoundStep count (event + 1) (s2, did) = subst (IsSoundStep count (event + 1)) (sym step) is in
+      let made : IsSoundStep (s2, did) = subst IsSoundStep (sym step) is in
       rw sent (sound-switch count terms s r book frames event h (s2, did) made)
   switch_step_sound app input s2 did frames2 (Err x) step is sent = tt
 

@@ -11,10 +11,9 @@ use Rattle.proto_data.specs.declared.terms.Mode.{Mode}
 use Rattle.key_table.specs.Table.{Key}
 use Rattle.proto_model.specs.Records.{Booked, records_of}
 use Rattle.proto_model.specs.ReplicaState.{Replica}
-use Rattle.proto_model.specs.SwitchState.{Switch, Copy}
+use Rattle.proto_model.specs.SwitchState.{Switch}
 use Rattle.proto_model.specs.World.{World, History, SwitchNode, ReplicaNode, first_config}
 use Rattle.proto_safety.specs.Sizes.{Sized}
-use Rattle.rp_world.specs.Steady.{IsSteadySlot}
 
 -- the numbers below n, the last one first
 abbrev pub first_passed : ℕ → List ℕ
@@ -42,6 +41,11 @@ one_each terms s r book frames passed event history =
       history = history;
     }
 
+-- the world, with the number of its application's cells
+pub record RunWorld : Type 0 where
+  pub world : World
+  pub cells : ℕ
+
 -- a message that one switch takes in strict mode, when no configuration is announced
 abbrev pub IsForSwitch : Body → Type 0
 IsForSwitch (Body.Config config) = ⊥
@@ -62,15 +66,11 @@ IsRoutedTo Node.Master from body = ⊥
 abbrev pub IsRouted : Msg → Type 0
 IsRouted m = IsRoutedTo m.to m.from m.body
 
--- a switch of an application with so many cells, after so many events, at moment 0
-pub record IsSoundSwitch (count turns : ℕ) (s : Switch) : Type 0 where
+-- the one switch, in strict mode
+pub record IsSoundSwitch (s : Switch) : Type 0 where
   pub me : s.me ≡ 0
   pub strict : s.terms.mode ≡ Mode.Strict
-  pub term : s.terms.t_switch ≤ 1000000
   pub head : s.config.chain ≡ 0 ∷ []
-  pub nonces : s.nonces ≤ turns
-  pub slots : AllByRecursion (λ e. IsSteadySlot count turns 0 e.1) s.slots
-  pub copies : AllByRecursion (λ (c : Copy). c.first ≤ 0) s.copies
 
 -- a replica that is head and tail, with the records of its book, after so many events
 pub record IsSoundReplica (count turns : ℕ) (r : Replica) (book : List Booked) : Type 0 where
@@ -84,7 +84,7 @@ pub record IsSoundReplica (count turns : ℕ) (r : Replica) (book : List Booked)
 -- what holds of such a world before and after each event
 pub record IsSoundRun (count : ℕ) (terms : Terms) (s : Switch) (r : Replica) (book : List Booked) (frames : List Msg) (event : ℕ) : Type 0 where
   pub mode : terms.mode ≡ Mode.Strict
-  pub switch : IsSoundSwitch count event s
+  pub switch : IsSoundSwitch s
   pub replica : IsSoundReplica count event r book
   pub routed : AllByRecursion IsRouted frames
 

@@ -5,12 +5,12 @@ ghost use Rattle.proto_model.specs.ReplicaRows.{entry_key};
 ghost use Rattle.key_table.specs.Table.{get};
 ghost use Rattle.rp_world.specs.Endings.{numbered, with_entry, with_item, closing_in, is_within, marks_in, serial_in};
 
-use crate::switch_did::Item;
 use key_table::KeyTable;
 use proto_model::Entry;
 use rp_base::{Key, Marks, NoMemory};
 use std::alloc::Global;
 use std::marker::Model;
+use switch_core::Item;
 
 /// An entry of a flow: its epoch, its number there, and whether it grants the epoch.
 #[derive(Clone, Copy, Debug)]

@@ -2,11 +2,11 @@
 ghost use Rattle.std.specs.Prelude.{◌≡◌, ◌++◌, [], ◌∷◌, IfOk, OnOk};
 ghost use Rattle.proto_model.specs.Effects.{added, made_output, put_output};
 
-use crate::switch_did::Item;
 use proto_model::{Body, Msg};
 use rp_base::{Fed, NoMemory, Output, Packet, Released};
 use std::alloc::Global;
 use std::marker::Model;
+use switch_core::Item;
 
 /// A packet that was processed, with its output.
 #[derive(Debug, Drop)]

@@ -11,12 +11,12 @@ use crate::event_lines;
 use crate::frames::Frames;
 use crate::history::History;
 use crate::sending::send;
-use crate::switch_did::SwitchDid;
 use proto_model::Entry;
 use rp_base::{Line, Lines, NoMemory, Refusal};
 use std::alloc::Global;
 use std::marker::Model;
 use store_replica::StoreDid;
+use switch_core::SwitchDid;
 
 /// An entry that a replica applied, with its clock and the number of the event.
 #[derive(Debug, Drop)]
@@ -60,9 +60,9 @@ pub(crate) fn note_switch(
         lost,
     } = did;
     let mut lines = event_lines::switch_lines(alloc, event, &released, dropped, lost)?;
-    history.push_item(event, item, &released, &sent)?;
+    history.push_item(event, item, &released, sent.as_slice())?;
     history.push_released(event, released)?;
-    send(&mut lines, event, frames, &sent)?;
+    send(&mut lines, event, frames, sent.as_slice())?;
     Ok(lines)
 }
 

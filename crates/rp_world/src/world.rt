@@ -38,18 +38,20 @@ impl<A: App> Model for World<A> {
 
     ghost Value = { AppWorld A };
 
-    ghost view = { λ w. record { app = w.app; world = w.world; failed = w.failed } };
+    ghost view = { λ w. record { app = w.app; world = w.world.world; failed = w.failed } };
 
-    ghost invariant = { λ w. w.failed ≡ false → IsGoing (A.meaning w.app) w.world };
+    ghost invariant = { λ w. w.failed ≡ false → IsGoing (A.meaning w.app) w.world.world × ((A.meaning w.app).cell_count ≡ w.world.cells) };
 }
 
 /// Takes one event.
 fn step<A: App>(app: &A, world: &mut OneEach, e: &Event) -> Result<Lines, NoMemory>
     requires event { IsEvent e.now }
-    requires count { world.old.event < 1000000000 }
-    requires going { IsGoing (A.meaning app.now) world.old }
-    ensures step { IfOk result (λ lines. (world.new, lines) ≡ stepped (A.meaning app.now) world.old e.now) }
-    ensures going { OnOk result (IsGoing (A.meaning app.now) world.new) }
+    requires count { world.old.world.event < 1000000000 }
+    requires going { IsGoing (A.meaning app.now) world.old.world }
+    requires cells { (A.meaning app.now).cell_count ≡ world.old.cells }
+    ensures step { IfOk result (λ lines. (world.new.world, lines) ≡ stepped (A.meaning app.now) world.old.world e.now) }
+    ensures going { OnOk result (IsGoing (A.meaning app.now) world.new.world) }
+    ensures cells { world.new.cells ≡ world.old.cells }
 {
     match e {
         Event::Feed { port, bytes } => world.feed(app, *port, bytes),

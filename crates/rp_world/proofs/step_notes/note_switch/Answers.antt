@@ -10,10 +10,10 @@ returns-clause-lines c =
     let before = length c.args.frames.now in
     subst (λ did. c.send.new.lines ≡ shown (switch_lines c.args.event before did)) c.did.view_is
     (c.in_ok-send.ensures.lines
-    ∙ (λ i. c.in_ok-lines.ensures i ++ shown (send_lines c.args.event before (c.deref-2.ensures.value i)))
+    ∙ (λ i. c.in_ok-lines.ensures i ++ shown (send_lines c.args.event before (c.as_slice-2.ensures i)))
     ∙ shown-switch c.args.event before
     (record {
-      sent = c.did.inside.sent.items;
+      sent = c.did.inside.sent;
       released = c.did.inside.released;
       item = c.did.inside.item;
       dropped = c.did.inside.dropped;

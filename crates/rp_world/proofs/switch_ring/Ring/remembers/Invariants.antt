@@ -1,7 +1,0 @@
-use Rattle.std.proofs.Common.{◌≡◌, take, false}
-use Rattle.proto_model.specs.Ring.{holds}
-use Rattle.std.specs.List.{list_any}
-use Rattle.rp_world.proofs.switch_ring.Ring.remembers.Given as goal
-
-abbrev pub invariant-loop-place : goal.invariant-loop-place
-invariant-loop-place l = list_any (holds l.mark) (take l.place-index l.place-items) ≡ false

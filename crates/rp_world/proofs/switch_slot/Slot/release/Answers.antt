@@ -1,9 +1,0 @@
-use Rattle.std.proofs.Common.{◌≡◌, sym}
-use Rattle.proto_model.specs.Ring.{forget}
-use Rattle.rp_world.proofs.SwitchRings.{forget_absent}
-use Rattle.rp_world.proofs.switch_slot.Slot.release.Goals as goal
-
-pub returns-then-not-remembers-clause-slot : goal.returns-then-not-remembers-clause-slot
-returns-then-not-remembers-clause-slot c =
-    let absent : forget c.self.inside.held c.in-Some.carried.mark ≡ c.self.inside.held = forget_absent _ _ (sym c.if-not-remembers.ensures) in
-    rw (c.in-Some.is, ← c.self.view_is, absent)
