@@ -4,8 +4,10 @@
 mod chain;
 mod router;
 mod up;
+mod worlds;
 
 pub use router::{DetectEnd, Router};
+pub use worlds::routes_follow_worlds;
 
 #[cfg(test)]
 mod tests;

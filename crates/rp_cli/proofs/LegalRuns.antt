@@ -11,21 +11,21 @@ use Rattle.rp_world.specs.AppWorld.{shown}
 use Rattle.proto_model.specs.EndLines.{report}
 use Rattle.proto_safety.proofs.Legality.ReportLegal.{reports_are_legal}
 use Rattle.sched_lang.specs.declared.schedule.Schedule.{Schedule}
-use Rattle.sched_lang.specs.Reading.{Fault, schedule_of}
-use Rattle.sched_lang.specs.Ready.{IsReady}
-use Rattle.sched_lang.proofs.Accepted.{accepted-ready}
+use Rattle.sched_lang.specs.Reading.{Fault, narrow_schedule_of}
+use Rattle.sched_lang.specs.Ready.{IsNarrow}
+use Rattle.sched_lang.proofs.Accepted.{accepted-narrow}
 use Rattle.rp_cli.specs.declared.status.Status.{Status}
 use Rattle.rp_cli.specs.declared.status.Status.TheVariants as status
 use Rattle.rp_cli.specs.Reports.{IsLegalText, counting_report, report_text, setup_of, unlinked, mode_of}
 use Rattle.rp_cli.specs.Top.{Command, Counts, Runs, form_of, asked, asked_at, read_or_refused, schedule_in, Loads, WritesLegal, BeginsLegal, IsOkWith, IsLegalAfter, IsNoSchedule}
 
-legal_text : (frames : Bool) (s : Schedule) → IsReady s → IsLegalText s.events (counting_report frames s)
-legal_text frames s ready =
+legal_text : (frames : Bool) (s : Schedule) → IsNarrow s → IsLegalText s.events (counting_report frames s)
+legal_text frames s narrow =
     let setup = unlinked (setup_of s) in
     record {
       lines = shown (report frames counting (unlinked (setup_of s)) s.events);
       says = refl;
-      legal = reports_are_legal kind spelling counting counting_promised setup (ap mode_of ready.header.strict) ready.header.hold s.events frames;
+      legal = reports_are_legal kind spelling counting counting_promised setup (ap mode_of narrow.strict) narrow.ready.header.hold s.events frames;
     }
 
 -- ---- where a schedule was loaded
@@ -37,7 +37,7 @@ loaded_is : (words : List (List ℕ)) (frames : Bool) (name : List ℕ) (s : Sch
 loaded_is words frames name s contents form h = ap (λ command. asked_at command contents) form ∙ h
 
 module _ (told : Option (List ℕ → Option (List ℕ))) (words : List (List ℕ)) (frames : Bool) (name : List ℕ) (s : Schedule) (setup : Setup) (events : List Event) (old new : Option (List ℕ))
-    (form : form_of words ≡ Some (Counts frames name)) (loads : IfSome told (λ contents. Loads (Ok s) (schedule_in (contents name)))) (ready : IsReady s) (setup_is : setup ≡ setup_of s) (events_are : events ≡ s.events) where
+    (form : form_of words ≡ Some (Counts frames name)) (loads : IfSome told (λ contents. Loads (Ok s) (schedule_in (contents name)))) (narrow : IsNarrow s) (setup_is : setup ≡ setup_of s) (events_are : events ≡ s.events) where
   -- what a run of this schedule writes
   report_is : report_text frames counting setup events ≡ counting_report frames s
   report_is = ap (λ (x : Setup). report_text frames counting x events) setup_is ∙ ap (λ es. report_text frames counting (setup_of s) es) events_are
@@ -49,12 +49,12 @@ module _ (told : Option (List ℕ → Option (List ℕ))) (words : List (List �
   -- all of it was written
   pub legal_whole : Grows old new (report_text frames counting setup events) → IfSome told (λ contents. IsOkWith (λ (s : Schedule). WritesLegal s.events old new) (asked words contents))
   legal_whole grows =
-      here (λ (s : Schedule). WritesLegal s.events old new) (counting_report frames s, (legal_text frames s ready, subst (λ text. Grows old new text) report_is grows)) told loads
+      here (λ (s : Schedule). WritesLegal s.events old new) (counting_report frames s, (legal_text frames s narrow, subst (λ text. Grows old new text) report_is grows)) told loads
 
   -- a front of it was
   pub legal_front : GrowsByFront old new (report_text frames counting setup events) → IfSome told (λ contents. IsOkWith (λ (s : Schedule). BeginsLegal s.events old new) (asked words contents))
   legal_front grows =
-      here (λ (s : Schedule). BeginsLegal s.events old new) (counting_report frames s, (legal_text frames s ready, subst (λ text. GrowsByFront old new text) report_is grows)) told loads
+      here (λ (s : Schedule). BeginsLegal s.events old new) (counting_report frames s, (legal_text frames s narrow, subst (λ text. GrowsByFront old new text) report_is grows)) told loads
 
 if_ok : (P : Schedule → Type 0) (r : Result Schedule Status) → IsOkWith P r → IfOk r P
 if_ok P (Ok s) h = h
@@ -71,13 +71,13 @@ nothing_more : (told : Option (List ℕ)) (text : List ℕ) → GrowsByFront tol
 nothing_more None text = (0, tt)
 nothing_more (Some xs) text = (0, sym (append-nil xs))
 
-begins_read : (old : Option (List ℕ)) (read : Result Schedule Fault) → IfOk read IsReady → IfOk (read_or_refused read) (λ (s : Schedule). BeginsLegal s.events old old)
-begins_read old (Ok s) ready = (counting_report false s, (legal_text false s ready, nothing_more old (counting_report false s)))
-begins_read old (Err fault) ready = tt
+begins_read : (old : Option (List ℕ)) (read : Result Schedule Fault) → IfOk read IsNarrow → IfOk (read_or_refused read) (λ (s : Schedule). BeginsLegal s.events old old)
+begins_read old (Ok s) narrow = (counting_report false s, (legal_text false s narrow, nothing_more old (counting_report false s)))
+begins_read old (Err fault) narrow = tt
 
 begins_in : (old : Option (List ℕ)) (content : Option (List ℕ)) → IfOk (schedule_in content) (λ (s : Schedule). BeginsLegal s.events old old)
 begins_in old None = tt
-begins_in old (Some text) = begins_read old (schedule_of text) (accepted-ready text)
+begins_in old (Some text) = begins_read old (narrow_schedule_of text) (accepted-narrow text)
 
 begins_at : (old : Option (List ℕ)) (command : Option Command) (contents : List ℕ → Option (List ℕ)) → IfOk (asked_at command contents) (λ (s : Schedule). BeginsLegal s.events old old)
 begins_at old None contents = tt

@@ -6,7 +6,7 @@ use Rattle.rp_base.specs.declared.event.Event.{Event}
 use Rattle.rp_base.specs.declared.refused.Refused.{Refused}
 use Rattle.p4_checked.specs.Reading.{bad_text}
 use Rattle.sched_lang.specs.declared.schedule.Schedule.{Schedule}
-use Rattle.sched_lang.specs.Reading.{Fault, schedule_of}
+use Rattle.sched_lang.specs.Reading.{Fault, narrow_schedule_of}
 use Rattle.rp_cli.specs.declared.status.Status.{Status}
 use Rattle.rp_cli.specs.declared.status.Status.TheVariants as status
 use Rattle.rp_cli.specs.Reports.{counting_report, IsLegalText}
@@ -48,7 +48,7 @@ read_or_refused (Err fault) = Err (status.ScheduleRefused fault.0 fault.1)
 -- the schedule of a content, if it is there
 abbrev pub schedule_in : Option (List ℕ) → Result Schedule Status
 schedule_in None = Err status.InputFault
-schedule_in (Some text) = read_or_refused (schedule_of text)
+schedule_in (Some text) = read_or_refused (narrow_schedule_of text)
 
 -- the answer of a program that is refused so or not at all, and of a schedule's content: that must be there, and programs don't run yet
 abbrev pub judged : Option Refused → Option (List ℕ) → Status

@@ -2,8 +2,8 @@
 ghost use Rattle.std.specs.Prelude.{◌≡◌, ◌≤◌, [], None, Some, Err, IfSome, IfOk, IfErr, IsOk, IsErrOf, drop, option_map};
 ghost use Rattle.rp_base.specs.Outside.{Grows, Rose};
 ghost use Rattle.rp_world.specs.AppWorld.{IsSetup};
-ghost use Rattle.sched_lang.specs.Reading.{schedule_of};
-ghost use Rattle.sched_lang.specs.Ready.{IsReady};
+ghost use Rattle.sched_lang.specs.Reading.{narrow_schedule_of};
+ghost use Rattle.sched_lang.specs.Ready.{IsNarrow};
 ghost use Rattle.rp_cli.specs.Reports.{setup_of as setup_for};
 ghost use Rattle.rp_cli.specs.Seen.{seen};
 ghost use Rattle.p4_checked.specs.Reading.{bad_text};
@@ -113,7 +113,7 @@ fn unbuilt<I: Inputs>(alloc: Global, program: &[u8], schedule: &[u8], inputs: &m
 // Loads a schedule and reads it.
 fn loaded<I: Inputs>(alloc: Global, name: &[u8], inputs: &mut I) -> Result<Schedule, Status>
     ensures told { IfSome (I.contents inputs.old) (λ contents. Loads result (schedule_in (contents name.now))) }
-    ensures ready { IfOk result IsReady }
+    ensures narrow { IfOk result IsNarrow }
     ensures ends { IfErr result IsNoSchedule }
     ensures contents { I.contents inputs.new ≡ I.contents inputs.old }
     ensures count { I.faults inputs.old ≤ I.faults inputs.new }
@@ -129,12 +129,12 @@ fn loaded<I: Inputs>(alloc: Global, name: &[u8], inputs: &mut I) -> Result<Sched
 
 // Reads a schedule.
 fn read(alloc: Global, text: &Bytes) -> Result<Schedule, Status>
-    ensures exact { Loads result (read_or_refused (schedule_of text.now)) }
-    ensures ready { IfOk result IsReady }
+    ensures exact { Loads result (read_or_refused (narrow_schedule_of text.now)) }
+    ensures narrow { IfOk result IsNarrow }
     ensures ends { IfErr result IsNoSchedule }
     ensures input { IsErrOf result Status.InputFault → ⊥ }
 {
-    match sched_lang::read(alloc, text.as_slice()) {
+    match sched_lang::read_narrow(alloc, text.as_slice()) {
         Ok(schedule) => Ok(schedule),
         Err(SchedEnd::Refused { line, why }) => Err(Status::ScheduleRefused { line, why }),
         Err(SchedEnd::NoMemory) => Err(Status::NoMemory),
@@ -143,7 +143,7 @@ fn read(alloc: Global, text: &Bytes) -> Result<Schedule, Status>
 
 // The nodes and terms of a schedule's run.
 fn setup_of(schedule: &Schedule) -> Setup
-    requires { IsReady schedule.now }
+    requires { IsNarrow schedule.now }
     ensures value { result ≡ setup_for schedule.now }
     ensures setup { IsSetup result }
 {

@@ -1,73 +1,31 @@
 -- A schedule that the grammar accepts is ready to run.
-use Rattle.std.proofs.Common.{◌≡◌, ℕ, ◌+◌, ◌≤◌, ◌<◌, List, [], ◌∷◌, Bool, true, false, not, ◌&&◌, cond, nat_le, nat_lt, length, Option, Some, None, Result, Ok, Err, arith, refl}
-use Rattle.std.specs.Prelude.{All, IfOk, IfSome, option_to_list, ◌++◌, ◌==◌, if◌then◌else◌, codes}
+use Rattle.std.proofs.Common.{◌≡◌, ℕ, ◌+◌, ◌≤◌, ◌<◌, List, [], ◌∷◌, Bool, true, false, nat_le, nat_lt, length, Option, Some, None, Ok, Err, arith, refl}
+use Rattle.std.specs.Prelude.{All, IfOk, IfSome, option_to_list, ◌++◌, if◌then◌else◌, codes}
 use Rattle.std.proofs.lemmas.Bool.{leb-true, leb-false, eqb-true}
 use Rattle.std.proofs.lemmas.List.Elements.{All-cons, All-nil}
 use Rattle.rp_base.specs.Clocks.{TermsHold}
 use Rattle.rp_base.specs.declared.event.Event.{Event}
+use Rattle.sched_lang.specs.declared.built.Scope.{Scope}
+use Rattle.sched_lang.specs.declared.built.Scope.TheVariants as scope
 use Rattle.sched_lang.specs.declared.header.Header.{Header}
-use Rattle.sched_lang.specs.declared.schedule.SchedWhy.{SchedWhy}
+use Rattle.sched_lang.specs.declared.schedule.Schedule.{Schedule}
 use Rattle.sched_lang.specs.declared.schedule.SchedWhy.TheVariants as why
-use Rattle.sched_lang.specs.Causes.{◌>>=◌, both}
-use Rattle.sched_lang.specs.Words.{lines, words, passed_over, is_decimal, value_of, number, one, two, behind}
+use Rattle.sched_lang.specs.Causes.{◌>>=◌}
+use Rattle.sched_lang.specs.Words.{lines, words, passed_over, number, none, one, two, behind}
 use Rattle.sched_lang.specs.Header.{first_line, named, switches_line, chain_line, lease_line, ratio_line, mode, mode_line, terms_fit}
-use Rattle.sched_lang.specs.Built.{if_built, switches_built, chain_built, mode_built, event_built}
-use Rattle.sched_lang.specs.EventForms.{event_of, event_line, kind_of}
-use Rattle.sched_lang.specs.Reading.{at_line, next_line, header, event_in, events_from, schedule_of}
-use Rattle.sched_lang.specs.Ready.{IsBuiltEvent, IsHeader, IsReady}
-use Rattle.sched_lang.proofs.Readiness.{event_form-built}
-
--- ---- what holds of what is read
-
--- what is read next, with a fact of what was read before
-next : {A B E : Type 0} (P : A → Type 0) (Q : B → Type 0) (r : Result A E) (f : A → Result B E) → IfOk r P → ((x : A) → P x → IfOk (f x) Q) → IfOk (r >>= f) Q
-next P Q (Ok x) f h k = k x h
-next P Q (Err e) f h k = tt
-
--- what is read next, whatever was read before
-behind_any : {A B E : Type 0} (Q : B → Type 0) (r : Result A E) (f : A → Result B E) → ((x : A) → IfOk (f x) Q) → IfOk (r >>= f) Q
-behind_any Q (Ok x) f k = k x
-behind_any Q (Err e) f k = tt
-
-at_its_line : {A : Type 0} (P : A → Type 0) (n : ℕ) (r : Result A SchedWhy) → IfOk r P → IfOk (at_line n r) P
-at_its_line P n (Ok x) h = h
-at_its_line P n (Err e) h = tt
-
-of_both : {A B : Type 0} (P : A → Type 0) (Q : B → Type 0) (r : Result A SchedWhy) (s : Result B SchedWhy) → IfOk r P → IfOk s Q → IfOk (both r s) (λ x. P x.0 × Q x.1)
-of_both P Q (Ok x) (Ok y) h k = (h, k)
-of_both P Q (Ok x) (Err e) h k = tt
-of_both P Q (Err d) (Ok y) h k = tt
-of_both P Q (Err d) (Err e) h k = tt
-
--- what passes a test, and is refused otherwise
-tested : {A E : Type 0} (P : A → Type 0) (b : Bool) (x : A) (e : E) → (b ≡ true → P x) → IfOk (cond b (Ok x) (Err e)) P
-tested P true x e h = h refl
-tested P false x e h = tt
-
-of_built : {A : Type 0} (P : A → Type 0) (built : A → Bool) (r : Result A SchedWhy) → ((x : A) → built x ≡ true → P x) → IfOk (if_built built r) P
-of_built P built (Ok x) h = tested P (built x) x why.NotYet (h x)
-of_built P built (Err e) h = tt
+use Rattle.sched_lang.specs.Built.{switches_built, chain_built, mode_built, event_built}
+use Rattle.sched_lang.specs.EventForms.{event_line}
+use Rattle.sched_lang.specs.Reading.{at_line, next_line, header, event_in, events_from, schedule_by, schedule_of, narrow_schedule_of}
+use Rattle.sched_lang.specs.Ready.{IsEventOf, IsHeader, IsReady, IsNarrow}
+use Rattle.sched_lang.proofs.Behind.{next, behind_any, at_its_line, of_both, tested, implied, of_built, Within, number-within}
+use Rattle.sched_lang.proofs.EventsReady.{event-ready, narrow-event}
 
 -- ---- the header
-
--- a number in its range
-abbrev Within : ℕ → ℕ → ℕ → Type 0
-Within least most n = (least ≤ n) × (n ≤ most)
-
-ranged : (least most n : ℕ) (form : Bool) → IfOk (if not form then Err why.Form else if nat_le least n && nat_le n most then Ok n else Err why.Number) (Within least most)
-ranged least most n false = tt
-ranged least most n true = grind arith
-
-number-within : (least most : ℕ) (word : List ℕ) → IfOk (number least most word) (Within least most)
-number-within least most word = ranged least most (value_of word) (is_decimal word)
 
 named-within : (name : List ℕ) (least most : ℕ) (line : List ℕ) → IfOk (named name least most line) (Within least most)
 named-within name least most line =
     behind_any (Within least most) (behind name (words line)) _ (λ args.
     behind_any (Within least most) (one args) _ (λ word. number-within least most word))
-
-is_one : (n : ℕ) → n == 1 ≡ true → n ≡ 1
-is_one n h = eqb-true n 1 h
 
 lease-within : (line : List ℕ) → IfOk (lease_line line) (λ x. Within 1 1000000 x.0 × Within 1 1000000 x.1)
 lease-within line =
@@ -83,99 +41,159 @@ Holds t_switch t_store ratio = (ratio ≤ 1000) × TermsHold t_switch t_store ra
 ratio-holds : (t_switch t_store : ℕ) (line : List ℕ) → IfOk (ratio_line t_switch t_store line) (Holds t_switch t_store)
 ratio-holds t_switch t_store line =
     next (Within 0 1000) (Holds t_switch t_store) (named _ 0 1000 line) _ (named-within _ 0 1000 line) (λ ratio within.
-    tested (Holds t_switch t_store) (terms_fit t_switch t_store ratio) ratio why.Terms (λ fit. (within.1, leb-true _ _ fit)))
+    tested (Holds t_switch t_store) (terms_fit t_switch t_store ratio) (Ok ratio) why.Terms (λ fit. (within.1, leb-true _ _ fit)))
 
-is_strict : (snapshot : Option ℕ) → mode_built snapshot ≡ true → snapshot ≡ None
-is_strict None h = refl
-is_strict (Some bound) h = grind (arith, h)
+-- the bound of a mode, in its range
+abbrev Bounded : Option ℕ → Type 0
+Bounded snapshot = IfSome snapshot (Within 1 1000000)
 
-switches-one : (line : List ℕ) → IfOk (switches_line line) (λ s. s ≡ 1)
-switches-one line = of_built (λ s. s ≡ 1) switches_built (named (codes "switches") 1 8 line) is_one
+mode-bounded : (words : List (List ℕ)) → IfOk (mode words) Bounded
+mode-bounded [] = tt
+mode-bounded (kind ∷ args) = by_kind _ _ (behind_any Bounded (none args) _ (λ end. tt)) (behind_any Bounded (one args) _ (λ word. next (Within 1 1000000) Bounded (number 1 1000000 word) _ (number-within 1 1000000 word) (λ bound h. h)))
+  where
+    by_kind : (strict snapshot : Bool) → IfOk (none args >>= λ end. Ok None) Bounded → IfOk (one args >>= λ word. number 1 1000000 word >>= λ bound. Ok (Some bound)) Bounded →
+        IfOk (if strict then (none args >>= λ end. Ok None) else if snapshot then (one args >>= λ word. number 1 1000000 word >>= λ bound. Ok (Some bound)) else Err why.Form) Bounded
+    by_kind true snapshot h k = h
+    by_kind false true h k = k
+    by_kind false false h k = tt
 
-chain-one : (line : List ℕ) → IfOk (chain_line line) (λ s. s ≡ 1)
-chain-one line = of_built (λ s. s ≡ 1) chain_built (named (codes "chain") 1 5 line) is_one
+-- what holds of a header that is built
+record IsBuiltHeader (s : Scope) (h : Header) : Type 0 where
+  pub ready : IsHeader h
+  pub switches : switches_built s h.switches ≡ true
+  pub chain : chain_built s h.chain ≡ true
+  pub mode : mode_built s h.snapshot ≡ true
 
-mode-strict : (line : List ℕ) → IfOk (mode_line line) (λ o. o ≡ None)
-mode-strict line = of_built (λ o. o ≡ None) mode_built (behind (codes "mode") (words line) >>= mode) is_strict
+module _ (s : Scope) where
+  abbrev Switches : ℕ → Type 0
+  Switches n = Within 1 8 n × (switches_built s n ≡ true)
 
-header-ready : (n : ℕ) (ls : List (List ℕ)) → IfOk (header n ls) (λ h. IsHeader h.0)
-unfolding header
-header-ready n ls =
-    let Q : Header × ℕ × List (List ℕ) → Type 0 = λ h. IsHeader h.0 in
-    behind_any Q (next_line n ls) _ (λ l1.
-    behind_any Q (at_line l1.0 (first_line l1.1)) _ (λ first.
-    behind_any Q (next_line (l1.0 + 1) l1.2) _ (λ l2.
-    next (λ s. s ≡ 1) Q (at_line l2.0 (switches_line l2.1)) _ (at_its_line (λ s. s ≡ 1) l2.0 (switches_line l2.1) (switches-one l2.1)) (λ switches one_switch.
-    behind_any Q (next_line (l2.0 + 1) l2.2) _ (λ l3.
-    next (λ s. s ≡ 1) Q (at_line l3.0 (chain_line l3.1)) _ (at_its_line (λ s. s ≡ 1) l3.0 (chain_line l3.1) (chain-one l3.1)) (λ chain one_replica.
-    behind_any Q (next_line (l3.0 + 1) l3.2) _ (λ l4.
-    next (λ x. Within 1 1000000 x.0 × Within 1 1000000 x.1) Q (at_line l4.0 (lease_line l4.1)) _ (at_its_line (λ x. Within 1 1000000 x.0 × Within 1 1000000 x.1) l4.0 (lease_line l4.1) (lease-within l4.1)) (λ lease within.
-    behind_any Q (next_line (l4.0 + 1) l4.2) _ (λ l5.
-    next (Holds lease.0 lease.1) Q (at_line l5.0 (ratio_line lease.0 lease.1 l5.1)) _ (at_its_line (Holds lease.0 lease.1) l5.0 (ratio_line lease.0 lease.1 l5.1) (ratio-holds lease.0 lease.1 l5.1)) (λ ratio holds.
-    behind_any Q (next_line (l5.0 + 1) l5.2) _ (λ l6.
-    next (λ o. o ≡ None) Q (at_line l6.0 (mode_line l6.1)) _ (at_its_line (λ o. o ≡ None) l6.0 (mode_line l6.1) (mode-strict l6.1)) (λ snapshot strict.
-    record {
-      switches = one_switch;
-      chain = one_replica;
-      some_switch = within.0.0;
-      switch_fits = within.0.1;
-      some_store = within.1.0;
-      store_fits = within.1.1;
-      ratio_fits = holds.0;
-      hold = holds.1;
-      strict = strict;
-    }))))))))))))
+  abbrev Replicas : ℕ → Type 0
+  Replicas n = Within 1 5 n × (chain_built s n ≡ true)
+
+  abbrev IsMode : Option ℕ → Type 0
+  IsMode snapshot = Bounded snapshot × (mode_built s snapshot ≡ true)
+
+  abbrev Leases : ℕ × ℕ → Type 0
+  Leases x = Within 1 1000000 x.0 × Within 1 1000000 x.1
+
+  header-ready : (n : ℕ) (ls : List (List ℕ)) → IfOk (header s n ls) (λ h. IsBuiltHeader s h.0)
+  unfolding header
+  header-ready n ls =
+      let Q : Header × ℕ × List (List ℕ) → Type 0 = λ h. IsBuiltHeader s h.0 in
+      behind_any Q (next_line n ls) _ (λ l1.
+      behind_any Q (at_line l1.0 (first_line l1.1)) _ (λ first.
+      behind_any Q (next_line (l1.0 + 1) l1.2) _ (λ l2.
+      next Switches Q (at_line l2.0 (switches_line s l2.1)) _ (at_its_line Switches l2.0 (switches_line s l2.1) (of_built (Within 1 8) (switches_built s) (named (codes "switches") 1 8 l2.1) (named-within (codes "switches") 1 8 l2.1))) (λ switches some_switches.
+      behind_any Q (next_line (l2.0 + 1) l2.2) _ (λ l3.
+      next Replicas Q (at_line l3.0 (chain_line s l3.1)) _ (at_its_line Replicas l3.0 (chain_line s l3.1) (of_built (Within 1 5) (chain_built s) (named (codes "chain") 1 5 l3.1) (named-within (codes "chain") 1 5 l3.1))) (λ chain some_replicas.
+      behind_any Q (next_line (l3.0 + 1) l3.2) _ (λ l4.
+      next Leases Q (at_line l4.0 (lease_line l4.1)) _ (at_its_line Leases l4.0 (lease_line l4.1) (lease-within l4.1)) (λ lease within.
+      behind_any Q (next_line (l4.0 + 1) l4.2) _ (λ l5.
+      next (Holds lease.0 lease.1) Q (at_line l5.0 (ratio_line lease.0 lease.1 l5.1)) _ (at_its_line (Holds lease.0 lease.1) l5.0 (ratio_line lease.0 lease.1 l5.1) (ratio-holds lease.0 lease.1 l5.1)) (λ ratio holds.
+      behind_any Q (next_line (l5.0 + 1) l5.2) _ (λ l6.
+      next IsMode Q (at_line l6.0 (mode_line s l6.1)) _ (at_its_line IsMode l6.0 (mode_line s l6.1) (of_built Bounded (mode_built s) (behind (codes "mode") (words l6.1) >>= mode) (behind_any Bounded (behind (codes "mode") (words l6.1)) mode mode-bounded))) (λ snapshot is_mode.
+      record {
+        ready = record {
+          some_switches = some_switches.0.0;
+          switches_fit = some_switches.0.1;
+          some_replicas = some_replicas.0.0;
+          replicas_fit = some_replicas.0.1;
+          some_switch = within.0.0;
+          switch_fits = within.0.1;
+          some_store = within.1.0;
+          store_fits = within.1.1;
+          ratio_fits = holds.0;
+          hold = holds.1;
+          bound = is_mode.0;
+        };
+        switches = some_switches.1;
+        chain = some_replicas.1;
+        mode = is_mode.1;
+      }))))))))))))
 
 -- ---- the events
 
-event-ready : (switches chain : ℕ) (line : List ℕ) → IfOk (event_line switches chain line) IsBuiltEvent
-event-ready switches chain line = by_words switches chain (words line) where
-  by_words : (switches chain : ℕ) (ws : List (List ℕ)) → IfOk (if_built event_built (event_of switches chain ws)) IsBuiltEvent
-  by_words switches chain [] = tt
-  by_words switches chain (word ∷ args) = event_form-built switches chain (kind_of word) args
+module _ (s : Scope) (switches chain : ℕ) where
+  abbrev IsBuiltEvent : Event → Type 0
+  IsBuiltEvent event = IsEventOf switches chain event × (event_built s event ≡ true)
 
--- an event that is built, and for which there is room
-abbrev HasRoom : ℕ → Option Event → Type 0
-HasRoom before event = IfSome event IsBuiltEvent × IfSome event (λ e. before < 20000)
+  -- an event that is built, and for which there is room
+  abbrev HasRoom : ℕ → Option Event → Type 0
+  HasRoom before event = IfSome event IsBuiltEvent × IfSome event (λ e. before < 20000)
 
-event_in-ready : (switches chain before : ℕ) (line : List ℕ) → IfOk (event_in switches chain before line) (HasRoom before)
-event_in-ready switches chain before line = passed (passed_over line) (nat_le 20000 before) refl where
-  passed : (over full : Bool) → nat_le 20000 before ≡ full →
-      IfOk (if over then Ok None else if full then Err why.Many else (event_line switches chain line >>= λ event. Ok (Some event))) (HasRoom before)
-  passed true full h = (tt, tt)
-  passed false true h = tt
-  passed false false h = next IsBuiltEvent (HasRoom before) (event_line switches chain line) _ (event-ready switches chain line) (λ event built. (built, leb-false 20000 before h))
+  event_in-ready : (before : ℕ) (line : List ℕ) → IfOk (event_in s switches chain before line) (HasRoom before)
+  event_in-ready before line = passed (passed_over line) (nat_le 20000 before) refl where
+    passed : (over full : Bool) → nat_le 20000 before ≡ full →
+        IfOk (if over then Ok None else if full then Err why.Many else (event_line s switches chain line >>= λ event. Ok (Some event))) (HasRoom before)
+    passed true full h = (tt, tt)
+    passed false true h = tt
+    passed false false h = next IsBuiltEvent (HasRoom before) (event_line s switches chain line) _ (event-ready switches chain s line) (λ event built. (built, leb-false 20000 before h))
 
--- events that are built, with so many before them at most 20,000
-abbrev AreReady : ℕ → List Event → Type 0
-AreReady before events = All IsBuiltEvent events × (before + length events ≤ 20000)
+  -- events that are built, with so many before them at most 20,000
+  abbrev AreReady : ℕ → List Event → Type 0
+  AreReady before events = All IsBuiltEvent events × (before + length events ≤ 20000)
 
-joined-ready : (before : ℕ) (here : Option Event) (more : List Event) → HasRoom before here → AreReady (before + length (option_to_list here)) more → AreReady before (option_to_list here ++ more)
-joined-ready before None more room ready = (ready.0, omega (arith, ready.1))
-joined-ready before (Some event) more room ready = (All-cons IsBuiltEvent event more room.0 ready.0, omega (arith, ready.1))
+  joined-ready : (before : ℕ) (here : Option Event) (more : List Event) → HasRoom before here → AreReady (before + length (option_to_list here)) more → AreReady before (option_to_list here ++ more)
+  joined-ready before None more room ready = (ready.0, omega (arith, ready.1))
+  joined-ready before (Some event) more room ready = (All-cons IsBuiltEvent event more room.0 ready.0, omega (arith, ready.1))
 
-room-after : (before : ℕ) (here : Option Event) → before ≤ 20000 → HasRoom before here → before + length (option_to_list here) ≤ 20000
-room-after before None most room = omega (arith, most)
-room-after before (Some event) most room = omega (arith, room.1)
+  room-after : (before : ℕ) (here : Option Event) → before ≤ 20000 → HasRoom before here → before + length (option_to_list here) ≤ 20000
+  room-after before None most room = omega (arith, most)
+  room-after before (Some event) most room = omega (arith, room.1)
 
-events-ready : (switches chain before n : ℕ) (ls : List (List ℕ)) → before ≤ 20000 → IfOk (events_from switches chain before n ls) (AreReady before)
-events-ready switches chain before n [] most = (All-nil IsBuiltEvent, omega (arith, most))
-events-ready switches chain before n (line ∷ ls) most =
-    next (HasRoom before) (AreReady before) (at_line n (event_in switches chain before line)) _ (at_its_line (HasRoom before) n (event_in switches chain before line) (event_in-ready switches chain before line)) (λ here room.
-    let after = before + length (option_to_list here) in
-    next (AreReady after) (AreReady before) (events_from switches chain after (n + 1) ls) _ (events-ready switches chain after (n + 1) ls (room-after before here most room)) (λ more ready.
-    joined-ready before here more room ready))
+  events-ready : (before n : ℕ) (ls : List (List ℕ)) → before ≤ 20000 → IfOk (events_from s switches chain before n ls) (AreReady before)
+  events-ready before n [] most = (All-nil IsBuiltEvent, omega (arith, most))
+  events-ready before n (line ∷ ls) most =
+      next (HasRoom before) (AreReady before) (at_line n (event_in s switches chain before line)) _ (at_its_line (HasRoom before) n (event_in s switches chain before line) (event_in-ready before line)) (λ here room.
+      let after = before + length (option_to_list here) in
+      next (AreReady after) (AreReady before) (events_from s switches chain after (n + 1) ls) _ (events-ready after (n + 1) ls (room-after before here most room)) (λ more ready.
+      joined-ready before here more room ready))
 
 -- ---- the whole text
 
+-- what holds of a schedule that is read as far as this scope goes
+record IsReadyIn (scope : Scope) (s : Schedule) : Type 0 where
+  pub ready : IsReady s
+  pub switches : switches_built scope s.switches ≡ true
+  pub chain : chain_built scope s.chain ≡ true
+  pub mode : mode_built scope s.snapshot ≡ true
+  pub events : All (λ event. event_built scope event ≡ true) s.events
+
+read-ready : (s : Scope) (text : List ℕ) → IfOk (schedule_by s text) (IsReadyIn s)
+unfolding schedule_by
+read-ready s text =
+    tested_not (nat_lt 4194304 (length text)) (
+    next (λ h. IsBuiltHeader s h.0) (IsReadyIn s) (header s 1 (lines text)) _ (header-ready s 1 (lines text)) (λ h built.
+    next (AreReady s h.0.switches h.0.chain 0) (IsReadyIn s) (events_from s h.0.switches h.0.chain 0 h.1 h.2) _ (events-ready s h.0.switches h.0.chain 0 h.1 h.2 (omega arith)) (λ events are.
+    record {
+      ready = record { header = built.ready; events = λ i d lt. (are.0 i d lt).0; count = omega (arith, are.1) };
+      switches = built.switches;
+      chain = built.chain;
+      mode = built.mode;
+      events = λ i d lt. (are.0 i d lt).1;
+    })))
+  where
+    tested_not : (long : Bool) →
+        IfOk (header s 1 (lines text) >>= λ h. events_from s h.0.switches h.0.chain 0 h.1 h.2 >>= λ events. Ok (record { switches = h.0.switches; chain = h.0.chain; t_switch = h.0.t_switch; t_store = h.0.t_store; ratio = h.0.ratio; snapshot = h.0.snapshot; events = events })) (IsReadyIn s) →
+        IfOk (if long then Err (0, why.TooLong) else (header s 1 (lines text) >>= λ h. events_from s h.0.switches h.0.chain 0 h.1 h.2 >>= λ events. Ok (record { switches = h.0.switches; chain = h.0.chain; t_switch = h.0.t_switch; t_store = h.0.t_store; ratio = h.0.ratio; snapshot = h.0.snapshot; events = events }))) (IsReadyIn s)
+    tested_not true h = tt
+    tested_not false h = h
+
 pub accepted-ready : (text : List ℕ) → IfOk (schedule_of text) IsReady
-unfolding schedule_of
-accepted-ready text = fits (nat_lt 4194304 (length text)) where
-  fits : (long : Bool) →
-      IfOk (if long then Err (0, why.TooLong) else (header 1 (lines text) >>= λ h. events_from h.0.switches h.0.chain 0 h.1 h.2 >>= λ events.
-      Ok (record { switches = h.0.switches; chain = h.0.chain; t_switch = h.0.t_switch; t_store = h.0.t_store; ratio = h.0.ratio; snapshot = h.0.snapshot; events = events }))) IsReady
-  fits true = tt
-  fits false =
-      next (λ h. IsHeader h.0) IsReady (header 1 (lines text)) _ (header-ready 1 (lines text)) (λ h ready.
-      next (AreReady 0) IsReady (events_from h.0.switches h.0.chain 0 h.1 h.2) _ (events-ready h.0.switches h.0.chain 0 h.1 h.2 (omega arith)) (λ events built.
-      record { header = ready; events = built.0; count = omega (arith, built.1) }))
+accepted-ready text = implied (IsReadyIn scope.Whole) IsReady (schedule_of text) (λ s h. h.ready) (read-ready scope.Whole text)
+
+is_strict : (snapshot : Option ℕ) → mode_built scope.Narrow snapshot ≡ true → snapshot ≡ None
+is_strict None h = refl
+is_strict (Some bound) h = grind (arith, h)
+
+pub accepted-narrow : (text : List ℕ) → IfOk (narrow_schedule_of text) IsNarrow
+accepted-narrow text =
+    implied (IsReadyIn scope.Narrow) IsNarrow (narrow_schedule_of text) (λ s h.
+    record {
+      ready = h.ready;
+      one_switch = eqb-true s.switches 1 h.switches;
+      one_replica = eqb-true s.chain 1 h.chain;
+      strict = is_strict s.snapshot h.mode;
+      events = λ i d lt. narrow-event s.switches s.chain _ (h.ready.events i d lt) (h.events i d lt);
+    }) (read-ready scope.Narrow text)

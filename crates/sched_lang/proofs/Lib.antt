@@ -1,4 +1,6 @@
 pub mod Cuts
 pub mod Fronts
-pub mod Readiness
+pub mod Behind
+pub mod EventsReady
 pub mod Accepted
+pub mod Narrower

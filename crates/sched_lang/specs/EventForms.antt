@@ -6,6 +6,7 @@ use Rattle.sched_lang.specs.declared.schedule.SchedWhy.{SchedWhy}
 use Rattle.sched_lang.specs.declared.schedule.SchedWhy.TheVariants as why
 use Rattle.sched_lang.specs.declared.event.Kind.{Kind}
 use Rattle.sched_lang.specs.declared.event.Kind.TheVariants as kind
+use Rattle.sched_lang.specs.declared.built.Scope.{Scope}
 use Rattle.sched_lang.specs.Causes.{◌>>=◌, both}
 use Rattle.sched_lang.specs.Words.{words, none, one, two, three, number, packet, switch, node}
 use Rattle.sched_lang.specs.Built.{if_built, event_built}
@@ -116,5 +117,5 @@ event_of switches chain [] = Err why.Form
 event_of switches chain (word ∷ args) = event_form switches chain (kind_of word) args
 
 -- an event's line, where the event is built
-abbrev pub event_line : ℕ → ℕ → List ℕ → Result Event SchedWhy
-event_line switches chain line = if_built event_built (event_of switches chain (words line))
+abbrev pub event_line : Scope → ℕ → ℕ → List ℕ → Result Event SchedWhy
+event_line scope switches chain line = if_built (event_built scope) (event_of switches chain (words line))

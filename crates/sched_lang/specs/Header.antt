@@ -2,6 +2,7 @@
 use Rattle.std.specs.Prelude.{ℕ, ◌+◌, ◌*◌, Bool, if◌then◌else◌, nat_le, List, [], ◌∷◌, Option, Some, None, Result, Ok, Err, codes, bytes_eq}
 use Rattle.sched_lang.specs.declared.schedule.SchedWhy.{SchedWhy}
 use Rattle.sched_lang.specs.declared.schedule.SchedWhy.TheVariants as why
+use Rattle.sched_lang.specs.declared.built.Scope.{Scope}
 use Rattle.sched_lang.specs.Causes.{◌>>=◌, both}
 use Rattle.sched_lang.specs.Words.{words, behind, none, one, two, number}
 use Rattle.sched_lang.specs.Built.{if_built, switches_built, chain_built, mode_built}
@@ -18,12 +19,12 @@ named name least most line = do
   number least most word
 
 -- `switches S`
-abbrev pub switches_line : List ℕ → Result ℕ SchedWhy
-switches_line line = if_built switches_built (named (codes "switches") 1 8 line)
+abbrev pub switches_line : Scope → List ℕ → Result ℕ SchedWhy
+switches_line scope line = if_built (switches_built scope) (named (codes "switches") 1 8 line)
 
 -- `chain C`
-abbrev pub chain_line : List ℕ → Result ℕ SchedWhy
-chain_line line = if_built chain_built (named (codes "chain") 1 5 line)
+abbrev pub chain_line : Scope → List ℕ → Result ℕ SchedWhy
+chain_line scope line = if_built (chain_built scope) (named (codes "chain") 1 5 line)
 
 -- `lease T_SWITCH T_STORE`
 abbrev pub lease_line : List ℕ → Result (ℕ × ℕ) SchedWhy
@@ -56,7 +57,7 @@ mode (kind ∷ args) =
     else Err why.Form
 
 -- `mode strict` or `mode snapshot BOUND`
-abbrev pub mode_line : List ℕ → Result (Option ℕ) SchedWhy
-mode_line line = if_built mode_built (do
+abbrev pub mode_line : Scope → List ℕ → Result (Option ℕ) SchedWhy
+mode_line scope line = if_built (mode_built scope) (do
   args ← behind (codes "mode") (words line)
   mode args)

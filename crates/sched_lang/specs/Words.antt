@@ -105,12 +105,12 @@ switch switches (letter ∷ digit ∷ []) = if letter == 115 then numbered 8 swi
 switch switches word = Err why.Form
 
 -- a number of a switch, as a node
-abbrev as_switch : Result ℕ SchedWhy → Result Node SchedWhy
+abbrev pub as_switch : Result ℕ SchedWhy → Result Node SchedWhy
 as_switch (Ok n) = Ok (Node.Switch n)
 as_switch (Err cause) = Err cause
 
 -- a number of a replica, as a node
-abbrev as_replica : Result ℕ SchedWhy → Result Node SchedWhy
+abbrev pub as_replica : Result ℕ SchedWhy → Result Node SchedWhy
 as_replica (Ok n) = Ok (Node.Replica n)
 as_replica (Err cause) = Err cause
 

@@ -1,29 +1,50 @@
-//! What a run can have today.
+//! How much of the language a reader takes.
 ghost use Rattle.std.specs.Prelude.{◌≡◌};
 ghost use Rattle.sched_lang.specs.Built.{switches_built, chain_built, mode_built, event_built};
 
 use rp_base::Event;
 
-pub(crate) fn switches_built(n: u64) -> bool
-    ensures { result ≡ switches_built n }
-{
-    n == 1
+/// How much of the language a reader takes.
+#[derive(Clone, Copy, Debug, PartialEq, Eq)]
+pub enum Scope {
+    /// One switch and one replica in strict mode, and the events `feed` and `next`.
+    Narrow,
+    /// Every form but `pump`.
+    Whole,
 }
 
-pub(crate) fn chain_built(n: u64) -> bool
-    ensures { result ≡ chain_built n }
+pub(crate) fn switches_built(scope: Scope, n: u64) -> bool
+    ensures { result ≡ switches_built scope n }
 {
-    n == 1
+    match scope {
+        Scope::Narrow => n == 1,
+        Scope::Whole => true,
+    }
 }
 
-pub(crate) fn mode_built(snapshot: Option<u64>) -> bool
-    ensures { result ≡ mode_built snapshot }
+pub(crate) fn chain_built(scope: Scope, n: u64) -> bool
+    ensures { result ≡ chain_built scope n }
 {
-    snapshot.is_none()
+    match scope {
+        Scope::Narrow => n == 1,
+        Scope::Whole => true,
+    }
 }
 
-pub(crate) fn event_built(event: &Event) -> bool
-    ensures { result ≡ event_built event.now }
+pub(crate) fn mode_built(scope: Scope, snapshot: Option<u64>) -> bool
+    ensures { result ≡ mode_built scope snapshot }
 {
-    matches!(event, Event::Feed { .. } | Event::Next)
+    match scope {
+        Scope::Narrow => snapshot.is_none(),
+        Scope::Whole => true,
+    }
+}
+
+pub(crate) fn event_built(scope: Scope, event: &Event) -> bool
+    ensures { result ≡ event_built scope event.now }
+{
+    match scope {
+        Scope::Narrow => matches!(event, Event::Feed { .. } | Event::Next),
+        Scope::Whole => !matches!(event, Event::Pump),
+    }
 }

@@ -1,10 +1,9 @@
 //! The lines of events.
 ghost use Rattle.std.specs.Prelude.{◌≡◌, ◌+◌, ◌≤◌, [], Some, Ok, ◌==◌, length, count_by, fold, IfOk, OnOk, OnErr, option_map};
 ghost use Rattle.sched_lang.specs.Words.{words, words_behind};
-ghost use Rattle.sched_lang.specs.Ready.{IsBuiltEvent};
 ghost use Rattle.sched_lang.specs.EventForms.{feed, feedat, frame, one_more, time, boot, node_word, frame_event, node_event, alone, kind_of, event_form, event_line};
 
-use crate::built::event_built;
+use crate::built::{Scope, event_built};
 use crate::schedule::SchedWhy;
 use crate::words::{
     both, first_word, no_words, node, number, one_word, packet, switch, three_words, two_words,
@@ -249,12 +248,12 @@ fn event_form(
 /// `NoMemory`.
 pub(crate) fn event(
     alloc: Global,
+    scope: Scope,
     switches: u8,
     chain: u8,
     line: &[u8],
 ) -> Result<Result<Event, SchedWhy>, NoMemory>
-    ensures value { IfOk result (λ read. read ≡ event_line switches chain line.now) }
-    ensures built { IfOk result (λ read. IfOk read IsBuiltEvent) }
+    ensures { IfOk result (λ read. read ≡ event_line scope switches chain line.now) }
 {
     let (word, args) = first_word(line);
     let Some(kind) = kind_of(word) else {
@@ -262,7 +261,7 @@ pub(crate) fn event(
     };
     match event_form(alloc, switches, chain, kind, args)? {
         Ok(event) => {
-            if event_built(&event) {
+            if event_built(scope, &event) {
                 Ok(Ok(event))
             } else {
                 Ok(Err(SchedWhy::NotYet))

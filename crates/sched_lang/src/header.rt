@@ -5,7 +5,7 @@ ghost use Rattle.rp_base.specs.Clocks.{TermsHold};
 ghost use Rattle.sched_lang.specs.Causes.{seen};
 ghost use Rattle.sched_lang.specs.Header.{first_line, named, switches_line, chain_line, lease_line, ratio_line, mode_line, mode};
 
-use crate::built::{chain_built, mode_built, switches_built};
+use crate::built::{Scope, chain_built, mode_built, switches_built};
 use crate::schedule::SchedWhy;
 use crate::words::{both, first_word, no_words, number, one_word, two_words};
 use rp_base::terms_hold;
@@ -54,24 +54,22 @@ fn named(line: &[u8], name: &[u8], least: u64, most: u64) -> Result<u64, SchedWh
     number(one_word(behind(line, name)?)?, least, most)
 }
 
-pub(crate) fn switches(line: &[u8]) -> Result<u8, SchedWhy>
-    ensures value { result ≡ switches_line line.now }
-    ensures built { IfOk result (λ n. n ≡ 1) }
+pub(crate) fn switches(scope: Scope, line: &[u8]) -> Result<u8, SchedWhy>
+    ensures { result ≡ switches_line scope line.now }
 {
     let n = named(line, b"switches", 1, 8)?;
-    if switches_built(n) {
+    if switches_built(scope, n) {
         Ok(n as u8)
     } else {
         Err(SchedWhy::NotYet)
     }
 }
 
-pub(crate) fn chain(line: &[u8]) -> Result<u8, SchedWhy>
-    ensures value { result ≡ chain_line line.now }
-    ensures built { IfOk result (λ n. n ≡ 1) }
+pub(crate) fn chain(scope: Scope, line: &[u8]) -> Result<u8, SchedWhy>
+    ensures { result ≡ chain_line scope line.now }
 {
     let n = named(line, b"chain", 1, 5)?;
-    if chain_built(n) {
+    if chain_built(scope, n) {
         Ok(n as u8)
     } else {
         Err(SchedWhy::NotYet)
@@ -125,12 +123,11 @@ fn mode_of(args: Option<&[u8]>) -> Result<Option<u64>, SchedWhy>
 }
 
 /// The bound of snapshot mode, or `None` in strict mode.
-pub(crate) fn mode(line: &[u8]) -> Result<Option<u64>, SchedWhy>
-    ensures value { result ≡ mode_line line.now }
-    ensures built { IfOk result (λ snapshot. snapshot ≡ None) }
+pub(crate) fn mode(scope: Scope, line: &[u8]) -> Result<Option<u64>, SchedWhy>
+    ensures { result ≡ mode_line scope line.now }
 {
     let snapshot = mode_of(behind(line, b"mode")?)?;
-    if mode_built(snapshot) {
+    if mode_built(scope, snapshot) {
         Ok(snapshot)
     } else {
         Err(SchedWhy::NotYet)

@@ -8,7 +8,10 @@ mod reading;
 mod schedule;
 mod words;
 
-pub use reading::{accepted_schedules_are_ready, read};
+pub use reading::{
+    accepted_schedules_are_ready, narrow_schedules_are_narrow, narrow_schedules_are_schedules,
+    read, read_narrow,
+};
 pub use schedule::{Events, SchedEnd, SchedWhy, Schedule};
 
 #[cfg(test)]

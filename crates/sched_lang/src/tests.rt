@@ -1,5 +1,5 @@
 use super::*;
-use rp_base::Event;
+use rp_base::{Event, Node};
 use std::alloc::Global;
 use std::test::*;
 
@@ -9,13 +9,21 @@ const HEADER: &[u8] =
 const ONE_PACKET: &[u8] =
     b"rp-schedule 1\nswitches 1\nchain 1\nlease 1000 1100\nratio 50\nmode strict\nfeed 7 6121\nnext\nnext\nnext\nnext\n";
 
-// How many events a text has, or where it is refused. No memory is line 0 and `NotYet`, which no text gives.
-fn answer(alloc: Global, text: &[u8]) -> Result<u64, (u64, SchedWhy)> {
-    match read(alloc, text) {
+// How many events a schedule has, or where it is refused. No memory is line 0 and `NotYet`, which no text gives.
+fn count_in(read: Result<Schedule, SchedEnd>) -> Result<u64, (u64, SchedWhy)> {
+    match read {
         Ok(schedule) => Ok(schedule.events.len()),
         Err(SchedEnd::Refused { line, why }) => Err((line, why)),
         Err(SchedEnd::NoMemory) => Err((0, SchedWhy::NotYet)),
     }
+}
+
+fn answer(alloc: Global, text: &[u8]) -> Result<u64, (u64, SchedWhy)> {
+    count_in(read(alloc, text))
+}
+
+fn narrow_answer(alloc: Global, text: &[u8]) -> Result<u64, (u64, SchedWhy)> {
+    count_in(read_narrow(alloc, text))
 }
 
 #[test]
@@ -104,7 +112,7 @@ fn headers(rt: HostRuntime) {
         (b"rp-schedule 2\n", 1, SchedWhy::Form),
         (b"rp-schedule 1\nswitches 01", 2, SchedWhy::Form),
         (b"rp-schedule 1\nswitches 9", 2, SchedWhy::Number),
-        (b"rp-schedule 1\nswitches 2", 2, SchedWhy::NotYet),
+        (b"rp-schedule 1\nswitches 2", 3, SchedWhy::Form),
         (b"rp-schedule 1\nswitches 1\nchain 6", 3, SchedWhy::Number),
         (
             b"rp-schedule 1\nswitches 1\nchain 1\nlease 0 x",
@@ -127,9 +135,9 @@ fn headers(rt: HostRuntime) {
             SchedWhy::Number,
         ),
         (
-            b"rp-schedule 1\nswitches 1\nchain 1\nlease 200 201\n#\nratio 5\nmode snapshot 100",
+            b"rp-schedule 1\nswitches 1\nchain 1\nlease 200 201\n#\nratio 5\nmode snapshot 1000001",
             7,
-            SchedWhy::NotYet,
+            SchedWhy::Number,
         ),
     ];
     for (text, line, why) in rows {
@@ -150,25 +158,132 @@ fn events(rt: HostRuntime) -> Result<(), Fail> {
         (b"feed 65536 6", Err((7, SchedWhy::Form))),
         (b"feed 65536 61", Err((7, SchedWhy::Number))),
         (b"feed 99999999999999999999 61", Err((7, SchedWhy::Number))),
-        (b"alarm s0", Err((7, SchedWhy::NotYet))),
+        (b"alarm s0", Ok(1)),
         (b"alarm s8", Err((7, SchedWhy::Form))),
         (b"fail r1", Err((7, SchedWhy::Node))),
-        (b"detect r0", Err((7, SchedWhy::NotYet))),
+        (b"detect r0", Ok(1)),
         (b"boot r0", Err((7, SchedWhy::Form))),
         (b"feedat s7 65536 ab", Err((7, SchedWhy::Number))),
         (b"feedat s7 1 ab", Err((7, SchedWhy::Node))),
         (b"time 1051", Err((7, SchedWhy::Form))),
         (b"time 1000000001 01", Err((7, SchedWhy::Form))),
         (b"time 1000000001 0", Err((7, SchedWhy::Number))),
-        (b"time 1051 1000", Err((7, SchedWhy::NotYet))),
+        (b"time 1051 1000", Ok(1)),
         (b"deliver 65536", Err((7, SchedWhy::Number))),
-        (b"drop 2", Err((7, SchedWhy::NotYet))),
-        (b"announce\npump", Err((7, SchedWhy::NotYet))),
+        (b"drop 2", Ok(1)),
+        (b"announce\npump", Err((8, SchedWhy::NotYet))),
     ];
     for (lines, want) in rows {
         let mut text = Vec::from_slice(rt.alloc(), HEADER)?;
         text.extend_from_slice(lines)?;
         assert_eq!(rt; answer(rt.alloc(), &text), want, "a row of the table");
+    }
+    Ok(())
+}
+
+// Which event of each kind: its number from 0, in the order in which the kinds are declared.
+fn kind_number(event: &Event) -> u64 {
+    match event {
+        Event::Feed { .. } => 0,
+        Event::FeedAt { .. } => 1,
+        Event::Deliver(_) => 2,
+        Event::Next => 3,
+        Event::Drop(_) => 4,
+        Event::Time(_) => 5,
+        Event::Alarm(_) => 6,
+        Event::Fail(_) => 7,
+        Event::Boot(_) => 8,
+        Event::Detect(_) => 9,
+        Event::Announce => 10,
+        Event::Pump => 11,
+    }
+}
+
+#[test]
+fn each_kind(rt: HostRuntime) -> Result<(), Fail> {
+    let text = b"rp-schedule 1\nswitches 8\nchain 5\nlease 200 201\nratio 5\nmode snapshot 100\n\
+feed 7 6121\nfeedat s7 65535 -\ndeliver 65535\nnext\ndrop 0\ntime 0 1 2 3 4 5 6 7 8 9 10 11 1000000000\n\
+alarm r4\nfail s7\nboot s7\ndetect r4\nannounce\n";
+    let schedule = read(rt.alloc(), text).ok().ok_or("the text is a schedule")?;
+    assert_eq!(rt; schedule.switches, 8);
+    assert_eq!(rt; schedule.chain, 5);
+    assert_eq!(rt; schedule.snapshot, Some(100));
+    assert_eq!(rt; schedule.events.len(), 11);
+    let mut n = 0;
+    for event in schedule.events.as_slice() {
+        assert_eq!(rt; kind_number(event), n);
+        n += 1;
+    }
+    match schedule.events.at(5) {
+        Some(Event::Time(by)) => assert_eq!(rt; by.as_slice().len(), 13),
+        _ => assert!(rt; false),
+    }
+    match schedule.events.at(6) {
+        Some(Event::Alarm(node)) => assert_eq!(rt; *node, Node::Replica(4)),
+        _ => assert!(rt; false),
+    }
+    Ok(())
+}
+
+#[test]
+fn nodes_of_the_run(rt: HostRuntime) -> Result<(), Fail> {
+    let header: &[u8] =
+        b"rp-schedule 1\nswitches 2\nchain 3\nlease 1000 1100\nratio 50\nmode strict\n";
+    let rows: [(&[u8], Result<u64, (u64, SchedWhy)>); 10] = [
+        (b"feedat s1 7 6121", Ok(1)),
+        (b"feedat s2 7 6121", Err((7, SchedWhy::Node))),
+        (b"alarm s1\nalarm s2", Err((8, SchedWhy::Node))),
+        (b"fail r2\nfail r3", Err((8, SchedWhy::Node))),
+        (b"detect r5", Err((7, SchedWhy::Form))),
+        (b"boot s1\nboot s2", Err((8, SchedWhy::Node))),
+        (b"time 1 1 1 1 1", Ok(1)),
+        (b"time 1 1 1 1", Err((7, SchedWhy::Form))),
+        (b"time 1 1 1 1 1 1", Err((7, SchedWhy::Form))),
+        (b"announce \n", Err((7, SchedWhy::Form))),
+    ];
+    for (lines, want) in rows {
+        let mut text = Vec::from_slice(rt.alloc(), header)?;
+        text.extend_from_slice(lines)?;
+        assert_eq!(rt; answer(rt.alloc(), &text), want, "a row of the table");
+    }
+    Ok(())
+}
+
+#[test]
+fn the_narrow_world(rt: HostRuntime) -> Result<(), Fail> {
+    let not_yet = SchedWhy::NotYet;
+    assert_eq!(rt; narrow_answer(rt.alloc(), ONE_PACKET), Ok(5));
+    let headers: [(&[u8], u64); 3] = [
+        (b"rp-schedule 1\nswitches 2", 2),
+        (b"rp-schedule 1\nswitches 1\nchain 5\nno line", 3),
+        (
+            b"rp-schedule 1\nswitches 1\nchain 1\nlease 200 201\n#\nratio 5\nmode snapshot 100",
+            7,
+        ),
+    ];
+    for (text, line) in headers {
+        assert_eq!(rt;
+            narrow_answer(rt.alloc(), text),
+            Err((line, not_yet)),
+            "line {line}"
+        );
+    }
+    let rows: [&[u8]; 9] = [
+        b"feedat s0 7 6121",
+        b"deliver 0",
+        b"drop 2",
+        b"time 1051 1000",
+        b"alarm s0",
+        b"fail r0",
+        b"boot s0",
+        b"detect r0",
+        b"announce",
+    ];
+    for line in rows {
+        let mut text = Vec::from_slice(rt.alloc(), HEADER)?;
+        text.extend_from_slice(line)?;
+        assert_eq!(rt; answer(rt.alloc(), &text), Ok(1));
+        assert_eq!(rt; narrow_answer(rt.alloc(), &text), Err((7, not_yet)));
     }
     Ok(())
 }

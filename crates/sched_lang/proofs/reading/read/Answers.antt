@@ -1,0 +1,8 @@
+use Rattle.sched_lang.specs.Ready.{IsReady}
+use Rattle.sched_lang.specs.Reading.{schedule_of}
+use Rattle.sched_lang.proofs.Behind.{of_given}
+use Rattle.sched_lang.proofs.Accepted.{accepted-ready}
+use Rattle.sched_lang.proofs.reading.read.Goals as goal
+
+pub returns-clause-ready : goal.returns-clause-ready
+returns-clause-ready c = of_given IsReady c.read_in.result (schedule_of c.args.b.now) c.read_in.ensures (accepted-ready c.args.b.now)
