@@ -39,12 +39,12 @@ impl Switch {
         ensures latest { OnOk result (self.new.latest ≡ self.old.latest) }
     {
         let due = self.flows.resend(self.terms.t_switch / 4)?;
-        self.put_again(going, &due)
+        self.put_again(going, due)
     }
 
     // Each of these goes as a Put again.
-    fn put_again(&self, going: &mut Going, due: &[PutCopy]) -> Result<(), NoMemory>
-        ensures { OnOk result (going.new ≡ record { sent = going.old.sent ++ map (resent_put self.now.state) due.now; begun = going.old.begun }) }
+    fn put_again(&self, going: &mut Going, due: Vec<PutCopy>) -> Result<(), NoMemory>
+        ensures { OnOk result (going.new ≡ record { sent = going.old.sent ++ map (resent_put self.now.state) due.items; begun = going.old.begun }) }
     {
         for copy in due {
             self.send_again(going, copy)?;
@@ -53,15 +53,15 @@ impl Switch {
     }
 
     // One copy goes as a Put again.
-    fn send_again(&self, going: &mut Going, copy: &PutCopy) -> Result<(), NoMemory>
-        ensures { OnOk result (going.new ≡ record { sent = going.old.sent ++ resent_put self.now.state copy.now ∷ []; begun = going.old.begun }) }
+    fn send_again(&self, going: &mut Going, copy: PutCopy) -> Result<(), NoMemory>
+        ensures { OnOk result (going.new ≡ record { sent = going.old.sent ++ resent_put self.now.state copy ∷ []; begun = going.old.begun }) }
     {
         going.send(self.to_head(Body::Put {
             inc: self.inc,
             epoch: self.flows.epoch(&copy.key),
             number: copy.number,
             key: copy.key,
-            delta: copy.delta.copy()?,
+            delta: copy.delta,
             load: None,
         }))
     }
