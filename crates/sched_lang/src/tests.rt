@@ -209,10 +209,9 @@ alarm r4\nfail s7\nboot s7\ndetect r4\nannounce\n";
     assert_eq!(rt; schedule.chain, 5);
     assert_eq!(rt; schedule.snapshot, Some(100));
     assert_eq!(rt; schedule.events.len(), 11);
-    let mut n = 0;
-    for event in schedule.events.as_slice() {
-        assert_eq!(rt; kind_number(event), n);
-        n += 1;
+    let events = schedule.events.as_slice();
+    for n in 0..events.len() {
+        assert_eq!(rt; kind_number(&events[n]), n as u64);
     }
     match schedule.events.at(5) {
         Some(Event::Time(by)) => assert_eq!(rt; by.as_slice().len(), 13),
