@@ -1,8 +1,9 @@
 -- A text that is written piece by piece.
-use Rattle.std.proofs.Common.{◌≡◌, List, ℕ, [], ◌++◌, Option, refl, sym, ap, subst, ◌∙◌, length, take, drop, append_assoc, Result, Ok, Err, OnErr, OnOk}
+use Rattle.std.proofs.Common.{◌≡◌, ◌≤◌, List, ℕ, [], ◌++◌, Option, refl, sym, ap, subst, ◌∙◌, length, take, drop, append_assoc, arith, Result, Ok, Err, OnErr, OnOk}
+use Rattle.std.specs.Prelude.{IsErrAnd}
 use Rattle.std.proofs.Math.Seq.{take-append_seam}
 use Rattle.std.proofs.lemmas.List.{append-nil, take-append-drop}
-use Rattle.rp_base.specs.Outside.{Grows, GrowsByFront}
+use Rattle.rp_base.specs.Outside.{Grows, GrowsByFront, HasCause}
 use Rattle.rp_base.proofs.Growth.{Grows-nothing, Grows-join}
 
 -- a front of a text is written, and this rest is left
@@ -52,3 +53,13 @@ on_err-map (Err e) f h = f h
 pub on_ok-map : {T E : Type 0} {P Q : Type 0} (r : Result T E) → (P → Q) → OnOk r P → OnOk r Q
 on_ok-map (Ok x) f h = f h
 on_ok-map (Err e) f h = tt
+
+-- an error has its cause, though the count rose before it was met too
+pub HasCause-later : {T E : Type 0} (before mid now : ℕ) (r : Result T E) (e : E) → before ≤ mid → HasCause mid now r e → HasCause before now r e
+HasCause-later before mid now r e le h = record { later = omega (arith, le, h.later); failed = λ is. omega (arith, le, h.failed is) }
+
+-- the same of an error that is handed on
+pub HasCause-on : {T E : Type 0} (before mid now : ℕ) (r : Result T E) (x e : E) → before ≤ mid → IsErrAnd r (λ y. y ≡ x) → HasCause {T = T} mid now (Err x) e → HasCause before now r e
+HasCause-on before mid now (Ok v) x e le h k = absurd h
+HasCause-on before mid now (Err y) x e le h k =
+    record { later = omega (arith, le, k.later); failed = λ is. omega (arith, le, k.failed (ap Err (sym h) ∙ is)) }

@@ -16,8 +16,7 @@ use Rattle.proto_model.specs.SwitchRow.{SwitchRow, NewAsk, Stale, Late, RoundDon
 use Rattle.proto_model.specs.SwitchOutcomes.{perform, after_new_ask, after_ask_again, after_direct, after_mirrored, after_acked, after_round, acked_lease, idled, late_did}
 use Rattle.key_table.proofs.KeyTables.{put_put, put_same}
 use Rattle.proto_data.specs.declared.limits.TheConstants.{COPIES}
-use Rattle.switch_core.specs.Rows.{timely_row, asks_by}
-use Rattle.switch_core.specs.Walks.{acked_by}
+use Rattle.switch_core.specs.Rows.{acked_by, timely_row, asks_by}
 
 pub with_slot_twice : (s : Switch) (key : Key) (a b : Slot) → with_slot (with_slot s key a) key b ≡ with_slot s key b
 with_slot_twice s key a b = ap (λ t. record s { slots = t }) (put_put s.slots key a b)

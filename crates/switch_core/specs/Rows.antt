@@ -1,9 +1,9 @@
--- The row of a Grant that comes in time, and which lease asks.
-use Rattle.std.specs.Prelude.{ℕ, ◌+◌, ◌==◌, Bool, false, List, Option}
+-- The row of a Grant that comes in time, which lease asks, and what an Ack makes of a lease.
+use Rattle.std.specs.Prelude.{ℕ, ◌+◌, ◌==◌, Bool, false, List, Option, Some, None}
 use Rattle.rp_app.specs.Application.{Application}
 use Rattle.proto_data.specs.declared.message.Carried.{Carried}
 use Rattle.key_table.specs.Table.{Key}
-use Rattle.proto_model.specs.Slot.{Slot, Lease, Idle, Asking, Held, Lapsed}
+use Rattle.proto_model.specs.Slot.{Slot, Lease, Idle, Asking, Held, Lapsed, extended}
 use Rattle.proto_model.specs.SwitchState.{Switch}
 use Rattle.proto_model.specs.SwitchRow.{SwitchRow, Granted, Stale, carried_row, granted}
 
@@ -25,3 +25,8 @@ asks_by nonce Idle = false
 asks_by nonce (Asking own first) = own == nonce
 asks_by nonce (Held own epoch expiry) = false
 asks_by nonce (Lapsed own epoch expiry) = false
+
+-- the lease after copies went, by the first sending of the greatest of them
+abbrev pub acked_by : ℕ → ℕ → Lease → Option ℕ → Lease
+acked_by t_switch now lease None = lease
+acked_by t_switch now lease (Some first) = extended t_switch now first lease

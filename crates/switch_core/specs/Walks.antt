@@ -3,7 +3,7 @@ use Rattle.std.specs.Prelude.{ℕ, ◌+◌, ◌/◌, ◌++◌, map, ◌^◌, ◌
 use Rattle.proto_data.specs.declared.message.Msg.{Msg}
 use Rattle.key_table.specs.Table.{Key}
 use Rattle.proto_data.specs.declared.limits.TheConstants.{COPIES, MESSAGES}
-use Rattle.proto_model.specs.Slot.{Lease, Slot, Round, extended}
+use Rattle.proto_model.specs.Slot.{Slot, Round}
 use Rattle.proto_model.specs.SwitchState.{Begun, Copy, Switch, has_copies, with_slot}
 use Rattle.proto_model.specs.SwitchAlarm.{Walk, chunk_sent, due_copies, ends_soon, other_copies, repeated_ask, resent_put}
 use Rattle.switch_core.specs.States.{SwitchAt}
@@ -35,11 +35,6 @@ CanWalk more s = (count : ℕ) × (n : ℕ) × (n + more ≤ 2 ^ 62) × IsSteady
 abbrev pub part_sent : Walk → Key → Slot → ℕ → Option Round → Walk
 part_sent w key slot epoch None = record { state = with_slot w.state key slot; sent = w.sent; begun = w.begun }
 part_sent w key slot epoch (Some r) = chunk_sent w key slot epoch r []
-
--- the lease after copies went, by the first sending of the greatest of them
-abbrev pub acked_by : ℕ → ℕ → Lease → Option ℕ → Lease
-acked_by t_switch now lease None = lease
-acked_by t_switch now lease (Some first) = extended t_switch now first lease
 
 -- the Ask of the slot at a place, if there is one
 abbrev pub ask_of : Switch → ℕ → Option (Key × Slot) → List Msg

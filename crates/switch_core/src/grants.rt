@@ -1,5 +1,5 @@
 //! Grants: a lease begins, or a packet that rode on an Ask comes back.
-ghost use Rattle.std.specs.Prelude.{◌≡◌, ◌≤◌, ◌<◌, ◌+◌, ◌^◌, ◌&&◌, ◌==◌, IfOk, length, if◌then◌else◌, true};
+ghost use Rattle.std.specs.Prelude.{◌≡◌, ◌≤◌, ◌<◌, ◌^◌, ◌&&◌, ◌==◌, IfOk, length, if◌then◌else◌, true};
 ghost use Rattle.proto_data.specs.Carrying.{packet_of};
 ghost use Rattle.proto_model.specs.SwitchRow.{Late, Stale, asked_mark, at_slot, carried_row, grant_row, process_row, without_asked};
 ghost use Rattle.proto_safety.specs.Sizes.{is_leased};

@@ -1,5 +1,5 @@
 //! What the typed lease of a slot lets a switch do.
-ghost use Rattle.std.specs.Prelude.{◌≡◌, ◌<◌, ◌&&◌, ◌==◌};
+ghost use Rattle.std.specs.Prelude.{◌≡◌, ◌<◌, ◌==◌};
 ghost use Rattle.proto_model.specs.SwitchRow.{has_epoch};
 ghost use Rattle.switch_core.specs.Rows.{asks_by};
 ghost use Rattle.switch_slot.specs.Leases.{lease_of};

@@ -64,6 +64,20 @@ impl SwitchCore {
         })
     }
 
+    /// The switch's number.
+    pub fn me(&self) -> u8
+        ensures { result ≡ self.now.state.me }
+    {
+        self.switch.me
+    }
+
+    /// The number of its incarnation: 1 at first, and one more at each boot.
+    pub fn inc(&self) -> u64
+        ensures { result ≡ self.now.state.inc }
+    {
+        self.switch.inc
+    }
+
     /// How often `on` was called.
     pub fn turns(&self) -> u64
         ensures { result ≡ self.now.turns }

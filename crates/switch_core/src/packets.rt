@@ -29,10 +29,8 @@ fn wrote_nothing(delta: &Delta) -> bool
 }
 
 impl Switch {
-    ghost use Rattle.std.specs.Prelude.{Option, ◌∷◌, true, false};
-    ghost use Rattle.rp_base.specs.declared.node.Output.{Output as OutputValue};
     ghost use Rattle.proto_data.specs.declared.terms.Mode.{Mode as ModeValue};
-    ghost use Rattle.proto_model.specs.SwitchState.{has_copies, is_of, only_released, to_head, with_slot};
+    ghost use Rattle.proto_model.specs.SwitchState.{only_released};
     ghost use Rattle.proto_model.specs.SwitchOutcomes.{after_direct, after_mirrored};
     ghost use Rattle.switch_core.specs.States.{acts, stepped};
 

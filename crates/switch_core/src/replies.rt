@@ -3,7 +3,7 @@ ghost use Rattle.std.specs.Prelude.{◌≡◌, ◌≤◌, ◌^◌, ◌&&◌, ◌
 ghost use Rattle.proto_model.specs.SwitchRow.{Adopts, Denied, Stale, ack_row, at_slot, busy_row, has_epoch, round_row};
 ghost use Rattle.switch_slot.specs.Leases.{IsSeenAt};
 ghost use Rattle.switch_flows.specs.Places.{IsPlaceOf};
-ghost use Rattle.switch_core.specs.Walks.{acked_by};
+ghost use Rattle.switch_core.specs.Rows.{acked_by};
 
 use crate::did::SwitchDid;
 use crate::leases::{is_asked, is_of_epoch};

@@ -8,7 +8,7 @@ use Rattle.proto_model.specs.EndLines.{end_lines}
 use Rattle.rp_world.specs.AppWorld.{stepped, shown}
 use Rattle.run_report.specs.Report.{NamesKind}
 use Rattle.rp_cli.specs.Reports.{lines_written, report_text}
-use Rattle.rp_cli.proofs.Fronts.{Midway, Midway-begun, Midway-more, Midway-front, Midway-part, Midway-whole, on_err, on_err-map, on_ok-map}
+use Rattle.rp_cli.proofs.Fronts.{Midway, Midway-begun, Midway-more, Midway-front, Midway-part, Midway-whole, on_err, on_err-map, on_ok-map, HasCause-later, HasCause-on}
 use Rattle.rp_cli.proofs.ReportTexts.{rest_text, rest_text-on, rest_text-end, report_text-is, shown-names}
 use Rattle.proto_safety.proofs.Inductions.EventCounts.{event_counts}
 use Rattle.rp_cli.proofs.running.write_report.Goals as goal
@@ -90,3 +90,10 @@ returns-clause-ok g c =
     rest_text-end c.args.frames app c.loop-event.world.world c.args.events.now c.loop-event.event-index (omega arith) ∙ ap lines_written (sym last) ∙ sym (append-nil _) in
     let midway = rw left at c.loop-event.invariant.midway in
     on_ok-map c.write_lines-2.result (λ whole. Midway-whole _ _ _ (Midway-more _ _ _ _ _ _ midway whole)) c.write_lines-2.ensures.ok
+
+pub returns-in_err-write_lines-clause-cause : goal.returns-in_err-write_lines-clause-cause
+returns-in_err-write_lines-clause-cause g c =
+    HasCause-on _ _ _ c.from_residual-in_err-write_lines.result _ _ c.loop-event.invariant.later c.from_residual-in_err-write_lines.ensures.1 c.in_err-write_lines.ensures.cause
+
+pub returns-clause-cause : goal.returns-clause-cause
+returns-clause-cause g c = HasCause-later _ _ _ c.write_lines-2.result _ c.loop-event.invariant.later c.write_lines-2.ensures.cause
