@@ -74,8 +74,8 @@ impl Router {
         Some(switches[up::key_sum(key) % switches.len()])
     }
 
-    // Whether a node is believed up.
-    fn is_up(&self, n: Node) -> bool
+    /// Whether a node is believed up: a switch by the view, a replica exactly where it is in the configuration. The master isn't.
+    pub fn is_up(&self, n: Node) -> bool
         ensures { result ≡ is_up self.now n }
     {
         match n {

@@ -1,0 +1,15 @@
+mod Taking
+mod FrameLengths
+mod ShownLines
+mod Sends
+pub mod NodeLists
+pub mod PassedFrames
+pub mod WorldGoes
+pub mod RunGoes
+pub mod RunAfter
+pub mod WorldTests
+pub mod Sendables
+pub mod FrameTests
+pub mod Announced
+pub mod Told
+pub mod Opened

@@ -1,0 +1,11 @@
+pub mod Frames
+pub mod SentFrames
+pub mod Past
+pub mod Passing
+pub mod Nodes
+pub mod Turns
+pub mod WorldStates
+pub mod Acts
+pub mod Announcing
+pub mod Steps
+pub mod Shown
