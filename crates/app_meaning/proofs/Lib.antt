@@ -1,0 +1,11 @@
+pub mod Equations
+pub mod Winners
+pub mod Places
+pub mod Facts
+pub mod Still
+pub mod DeltaCells
+pub mod Cells
+pub mod Kept
+pub mod Calls
+pub mod Tails
+pub mod Promises

@@ -1,0 +1,10 @@
+pub mod Values
+pub mod Slots
+pub mod Expressions
+pub mod Matches
+pub mod Assigning
+pub mod Statements
+pub mod Actions
+pub mod Packets
+pub mod Programs
+pub mod Premises

@@ -1,0 +1,6 @@
+//! The meaning of checked programs.
+#![tactic(auto)]
+
+mod laws;
+
+pub use laws::{programs_are_applications, tables_find_the_longest_prefix};

@@ -1,0 +1,7 @@
+use Rattle.std.proofs.Common.{◌∙◌, ◌∷◌, []}
+use Rattle.app_meaning.specs.Slots.{text}
+use Rattle.app_meaning.proofs.Places.{place_is_position}
+use Rattle.tree_eval.proofs.paths.place_of_name.Goals as goal
+
+pub returns : goal.returns
+returns c = c.position_of_name.ensures ∙ place_is_position c.args.slots.now (text c.args.name.now ∷ [])

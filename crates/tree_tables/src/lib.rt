@@ -1,0 +1,7 @@
+//! Which entry of a table and which case of a `select` wins, by walking the tree.
+#![tactic(auto)]
+
+mod keyset;
+mod winner;
+
+pub use winner::{chosen, lpm_place, won};
