@@ -1,0 +1,3 @@
+pub mod BoundedLines
+pub mod NeededPremises
+pub mod WorkedLines
