@@ -139,3 +139,7 @@ put_is bytes whole new used part used' part' w v e h =
     ∙ append_assoc (bits_of bytes) (bits_of whole) (digits used' part')
     ∙ ap (λ (xs : List ℕ). bits_of bytes ++ xs) h
     ∙ sym (append_assoc (bits_of bytes) (digits used part) (digits w v))
+
+-- where no part of a byte waits, whole bytes may follow
+pub no_part : (used part : ℕ) (xs ys : List ℕ) → used ≡ 0 → (xs ++ ys) ++ digits used part ≡ (xs ++ digits used part) ++ ys
+no_part used part xs ys none = rw (none) (append-nil (xs ++ ys) ∙ ap (λ (zs : List ℕ). zs ++ ys) (sym (append-nil xs)))

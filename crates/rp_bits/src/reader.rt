@@ -1,5 +1,5 @@
 //! Bits are taken from the front of bytes.
-ghost use Rattle.std.specs.Prelude.{◌≡◌, ◌≤◌, ◌<◌, ◌*◌, ◌+◌, ◌^◌, length, take, drop, slice_index, IfOk};
+ghost use Rattle.std.specs.Prelude.{◌≡◌, ◌≤◌, ◌<◌, ◌*◌, ◌+◌, ◌^◌, length, take, drop, slice_index, ◌%◌, ◌↔◌, IfOk, IfSome, IsNone};
 ghost use Rattle.rp_bits.specs.Bits.{bits_of, number_of, taken};
 
 use std::marker::Model;
@@ -59,6 +59,18 @@ impl<'a> BitReader<'a> {
         self.bytes = rest;
         self.used = (end % 8) as u8;
         Ok(n)
+    }
+
+    /// The bytes of all bits that are left, where these are whole bytes.
+    pub fn whole_bytes(&self) -> Option<&[u8]>
+        ensures some { IfSome result (λ bytes. bits_of bytes.now ≡ self.now) }
+        ensures none { IsNone result ↔ (0 < length self.now % 8) }
+    {
+        if self.used == 0 {
+            Some(self.bytes)
+        } else {
+            None
+        }
     }
 }
 

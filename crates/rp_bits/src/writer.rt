@@ -58,6 +58,23 @@ impl BitWriter {
         Ok(())
     }
 
+    /// Puts all bits of these bytes.
+    ///
+    /// # Errors
+    /// `NoMemory`.
+    pub fn put_bytes(&mut self, bytes: &[u8]) -> Result<(), NoMemory>
+        ensures { OnOk result (self.new ≡ self.old ++ bits_of bytes.now) }
+    {
+        if self.used == 0 {
+            self.bytes.append(bytes)?;
+            return Ok(());
+        }
+        for b in bytes {
+            self.put(8, *b as u128)?;
+        }
+        Ok(())
+    }
+
     /// The bytes of all bits. Where their number isn't a multiple of 8, the bits behind the last whole byte aren't in them.
     pub fn finish(self) -> Bytes
         ensures { result ≡ bytes_of self }
