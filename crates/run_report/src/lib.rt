@@ -6,6 +6,7 @@ mod report;
 mod text;
 
 pub use report::line;
+pub use text::Text;
 
 #[cfg(test)]
 mod tests;

@@ -8,7 +8,6 @@ use Rattle.sched_lang.specs.declared.schedule.SchedEnd.{SchedEnd}
 use Rattle.sched_lang.specs.declared.schedule.SchedEnd.TheVariants as end
 use Rattle.sched_lang.specs.Causes.{◌>>=◌, both}
 use Rattle.sched_lang.specs.Words.{is_decimal, value_of, number}
-use Rattle.sched_lang.specs.Built.{if_built}
 use Rattle.sched_lang.specs.Reading.{Fault, Gives, at_line}
 
 -- what is read next, with a fact of what was read before
@@ -40,15 +39,6 @@ tested P false r e h = tt
 pub unless : {A E : Type 0} (P : A → Type 0) (b : Bool) (r : Result A E) (e : E) → IfOk r P → IfOk (cond b (Err e) r) P
 unless P true r e h = tt
 unless P false r e h = h
-
-pub implied : {A E : Type 0} (P Q : A → Type 0) (r : Result A E) → ((x : A) → P x → Q x) → IfOk r P → IfOk r Q
-implied P Q (Ok x) k h = k x h
-implied P Q (Err e) k h = tt
-
--- what is built keeps what held of it
-pub of_built : {A : Type 0} (P : A → Type 0) (built : A → Bool) (r : Result A SchedWhy) → IfOk r P → IfOk (if_built built r) (λ x. P x × (built x ≡ true))
-of_built P built (Ok x) h = tested (λ y. P y × (built y ≡ true)) (built x) (Ok x) why.NotYet (λ is. (h, is))
-of_built P built (Err e) h = tt
 
 -- what a reader returned, where this holds of what the lines read
 pub of_given : (P : Schedule → Type 0) (r : Result Schedule SchedEnd) (read : Result Schedule Fault) → Gives (λ s. s) r read → IfOk read P → IfOk r P

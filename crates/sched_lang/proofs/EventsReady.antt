@@ -8,18 +8,15 @@ use Rattle.hex.specs.Hex.{decode_of}
 use Rattle.hex.specs.declared.error.FromHexError.{FromHexError}
 use Rattle.rp_base.specs.declared.event.Event.{Event}
 use Rattle.rp_base.specs.declared.node.Node.{Node}
-use Rattle.sched_lang.specs.declared.built.Scope.{Scope}
-use Rattle.sched_lang.specs.declared.built.Scope.TheVariants as scope
 use Rattle.sched_lang.specs.declared.schedule.SchedWhy.{SchedWhy}
 use Rattle.sched_lang.specs.declared.schedule.SchedWhy.TheVariants as why
 use Rattle.sched_lang.specs.declared.event.Kind.{Kind}
 use Rattle.sched_lang.specs.declared.event.Kind.TheVariants as kind
 use Rattle.sched_lang.specs.Causes.{◌>>=◌, both}
 use Rattle.sched_lang.specs.Words.{words, none, one, two, three, number, packet, packet_in, numbered, switch, node, as_switch, as_replica}
-use Rattle.sched_lang.specs.EventForms.{feed, feedat, frame, frame_event, one_more, time, boot, node_word, node_event, alone, event_form, event_of, event_line, kind_of}
-use Rattle.sched_lang.specs.Built.{is_narrow, event_built, if_built}
-use Rattle.sched_lang.specs.Ready.{IsNodeOf, IsEventOf, IsNarrowEvent}
-use Rattle.sched_lang.proofs.Behind.{next, behind_any, of_both, tested, unless, of_built, Within, number-within}
+use Rattle.sched_lang.specs.EventForms.{feed, feedat, frame, frame_event, one_more, time, boot, node_word, node_event, event_form, event_of, event_line, kind_of}
+use Rattle.sched_lang.specs.Ready.{IsNodeOf, IsEventOf}
+use Rattle.sched_lang.proofs.Behind.{next, behind_any, of_both, tested, unless, Within, number-within}
 
 -- ---- words
 
@@ -128,51 +125,27 @@ module _ (switches chain : ℕ) where
       let size : length args ≡ switches + chain = eqb-true (length args) (switches + chain) is in
       next (Advance (0 + length args)) Q (fold one_more (Ok []) args) _ (advances-ready 0 (Ok []) args (omega arith, All-nil (λ d. d ≤ 1000000000))) (λ by h. (omega (arith, h.0, size), h.1)))
 
-  -- what holds of what is built
-  abbrev Ready : Scope → Event → Type 0
-  Ready scope event = Q event × (event_built scope event ≡ true)
+  form-ready : (which : Option Kind) (args : List (List ℕ)) → IfOk (event_form switches chain which args) Q
+  form-ready None args = tt
+  form-ready (Some kind.Feed) args = feed-ready args
+  form-ready (Some kind.FeedAt) args = feedat-ready args
+  form-ready (Some kind.Deliver) args = frame-ready Event.Deliver (λ n h. h) args
+  form-ready (Some kind.Next) args = behind_any Q (none args) _ (λ end. tt)
+  form-ready (Some kind.Drop) args = frame-ready Event.Drop (λ n h. h) args
+  form-ready (Some kind.Time) args = time-ready args
+  form-ready (Some kind.Alarm) args = node-ready Event.Alarm (λ n h. h) args
+  form-ready (Some kind.Fail) args = node-ready Event.Fail (λ n h. h) args
+  form-ready (Some kind.Boot) args = boot-ready args
+  form-ready (Some kind.Detect) args = node-ready Event.Detect (λ n h. h) args
+  form-ready (Some kind.Announce) args = behind_any Q (none args) _ (λ end. tt)
+  form-ready (Some kind.Pump) args = behind_any Q (none args) _ (λ end. tt)
 
-  pump-not : (s : Scope) (end : Result (Unit {0}) SchedWhy) → IfOk (if_built (event_built s) (end >>= λ x. Ok Event.Pump)) (Ready s)
-  pump-not scope.Narrow (Ok x) = tt
-  pump-not scope.Narrow (Err e) = tt
-  pump-not scope.Whole (Ok x) = tt
-  pump-not scope.Whole (Err e) = tt
+  words-ready : (ws : List (List ℕ)) → IfOk (event_of switches chain ws) Q
+  words-ready [] = tt
+  words-ready (word ∷ args) = form-ready (kind_of word) args
 
-  form-ready : (s : Scope) (which : Option Kind) (args : List (List ℕ)) → IfOk (if_built (event_built s) (event_form switches chain which args)) (Ready s)
-  form-ready s None args = tt
-  form-ready s (Some kind.Feed) args = of_built Q (event_built s) (feed args) (feed-ready args)
-  form-ready s (Some kind.FeedAt) args = of_built Q (event_built s) (feedat switches args) (feedat-ready args)
-  form-ready s (Some kind.Deliver) args = of_built Q (event_built s) (frame_event Event.Deliver args) (frame-ready Event.Deliver (λ n h. h) args)
-  form-ready s (Some kind.Next) args = of_built Q (event_built s) (alone Event.Next args) (behind_any Q (none args) _ (λ end. tt))
-  form-ready s (Some kind.Drop) args = of_built Q (event_built s) (frame_event Event.Drop args) (frame-ready Event.Drop (λ n h. h) args)
-  form-ready s (Some kind.Time) args = of_built Q (event_built s) (time (switches + chain) args) (time-ready args)
-  form-ready s (Some kind.Alarm) args = of_built Q (event_built s) (node_event Event.Alarm switches chain args) (node-ready Event.Alarm (λ n h. h) args)
-  form-ready s (Some kind.Fail) args = of_built Q (event_built s) (node_event Event.Fail switches chain args) (node-ready Event.Fail (λ n h. h) args)
-  form-ready s (Some kind.Boot) args = of_built Q (event_built s) (boot switches args) (boot-ready args)
-  form-ready s (Some kind.Detect) args = of_built Q (event_built s) (node_event Event.Detect switches chain args) (node-ready Event.Detect (λ n h. h) args)
-  form-ready s (Some kind.Announce) args = of_built Q (event_built s) (alone Event.Announce args) (behind_any Q (none args) _ (λ end. tt))
-  form-ready s (Some kind.Pump) args = pump-not s (none args)
-
-  words-ready : (s : Scope) (ws : List (List ℕ)) → IfOk (if_built (event_built s) (event_of switches chain ws)) (Ready s)
-  words-ready s [] = tt
-  words-ready s (word ∷ args) = form-ready s (kind_of word) args
-
-  pub event-ready : (s : Scope) (line : List ℕ) → IfOk (event_line s switches chain line) (λ event. IsEventOf switches chain event × (event_built s event ≡ true))
-  event-ready s line = words-ready s (words line)
-
-pub narrow-event : (switches chain : ℕ) (event : Event) → IsEventOf switches chain event → is_narrow event ≡ true → IsNarrowEvent event
-narrow-event switches chain (Event.Feed port bytes) h k = h
-narrow-event switches chain (Event.FeedAt n port bytes) h k = grind (arith, k)
-narrow-event switches chain (Event.Deliver i) h k = grind (arith, k)
-narrow-event switches chain Event.Next h k = tt
-narrow-event switches chain (Event.Drop i) h k = grind (arith, k)
-narrow-event switches chain (Event.Time by) h k = grind (arith, k)
-narrow-event switches chain (Event.Alarm node) h k = grind (arith, k)
-narrow-event switches chain (Event.Fail node) h k = grind (arith, k)
-narrow-event switches chain (Event.Boot n) h k = grind (arith, k)
-narrow-event switches chain (Event.Detect node) h k = grind (arith, k)
-narrow-event switches chain Event.Announce h k = grind (arith, k)
-narrow-event switches chain Event.Pump h k = h
+  pub event-ready : (line : List ℕ) → IfOk (event_line switches chain line) (IsEventOf switches chain)
+  event-ready line = words-ready (words line)
 
 pub count-one_more : (events : List Event) (event : Option Event) → length events ≤ 20000 → IfSome event (λ _. length events < 20000) → length (events ++ option_to_list event) ≤ 20000
 count-one_more events (Some event) most room = let size = length-append events (event ∷ []) in omega (arith, size, room)

@@ -3,4 +3,3 @@ pub mod Fronts
 pub mod Behind
 pub mod EventsReady
 pub mod Accepted
-pub mod Narrower

@@ -6,10 +6,8 @@ use Rattle.sched_lang.specs.declared.schedule.SchedWhy.{SchedWhy}
 use Rattle.sched_lang.specs.declared.schedule.SchedWhy.TheVariants as why
 use Rattle.sched_lang.specs.declared.event.Kind.{Kind}
 use Rattle.sched_lang.specs.declared.event.Kind.TheVariants as kind
-use Rattle.sched_lang.specs.declared.built.Scope.{Scope}
 use Rattle.sched_lang.specs.Causes.{◌>>=◌, both}
 use Rattle.sched_lang.specs.Words.{words, none, one, two, three, number, packet, switch, node}
-use Rattle.sched_lang.specs.Built.{if_built, event_built}
 
 -- ---- what stands behind the first word; a run has so many switches and replicas
 
@@ -64,6 +62,12 @@ alone event args = do
   end ← none args
   Ok event
 
+-- `pump` alone on its line is an event, which isn't built
+abbrev pub pump : List (List ℕ) → Result Event SchedWhy
+pump args = do
+  end ← none args
+  Err why.NotYet
+
 -- ---- a line
 
 -- the event that a line names by its first word
@@ -109,13 +113,13 @@ event_form switches chain (Some kind.Fail) args = node_event Event.Fail switches
 event_form switches chain (Some kind.Boot) args = boot switches args
 event_form switches chain (Some kind.Detect) args = node_event Event.Detect switches chain args
 event_form switches chain (Some kind.Announce) args = alone Event.Announce args
-event_form switches chain (Some kind.Pump) args = alone Event.Pump args
+event_form switches chain (Some kind.Pump) args = pump args
 
 -- the event of a line by its words
 abbrev pub event_of : ℕ → ℕ → List (List ℕ) → Result Event SchedWhy
 event_of switches chain [] = Err why.Form
 event_of switches chain (word ∷ args) = event_form switches chain (kind_of word) args
 
--- an event's line, where the event is built
-abbrev pub event_line : Scope → ℕ → ℕ → List ℕ → Result Event SchedWhy
-event_line scope switches chain line = if_built (event_built scope) (event_of switches chain (words line))
+-- an event's line
+abbrev pub event_line : ℕ → ℕ → List ℕ → Result Event SchedWhy
+event_line switches chain line = event_of switches chain (words line)

@@ -2,10 +2,8 @@
 use Rattle.std.specs.Prelude.{ℕ, ◌+◌, ◌*◌, Bool, if◌then◌else◌, nat_le, List, [], ◌∷◌, Option, Some, None, Result, Ok, Err, codes, bytes_eq}
 use Rattle.sched_lang.specs.declared.schedule.SchedWhy.{SchedWhy}
 use Rattle.sched_lang.specs.declared.schedule.SchedWhy.TheVariants as why
-use Rattle.sched_lang.specs.declared.built.Scope.{Scope}
 use Rattle.sched_lang.specs.Causes.{◌>>=◌, both}
 use Rattle.sched_lang.specs.Words.{words, behind, none, one, two, number}
-use Rattle.sched_lang.specs.Built.{if_built, switches_built, chain_built, mode_built}
 
 -- `rp-schedule 1`
 abbrev pub first_line : List ℕ → Result (Unit {0}) SchedWhy
@@ -19,12 +17,12 @@ named name least most line = do
   number least most word
 
 -- `switches S`
-abbrev pub switches_line : Scope → List ℕ → Result ℕ SchedWhy
-switches_line scope line = if_built (switches_built scope) (named (codes "switches") 1 8 line)
+abbrev pub switches_line : List ℕ → Result ℕ SchedWhy
+switches_line line = named (codes "switches") 1 8 line
 
 -- `chain C`
-abbrev pub chain_line : Scope → List ℕ → Result ℕ SchedWhy
-chain_line scope line = if_built (chain_built scope) (named (codes "chain") 1 5 line)
+abbrev pub chain_line : List ℕ → Result ℕ SchedWhy
+chain_line line = named (codes "chain") 1 5 line
 
 -- `lease T_SWITCH T_STORE`
 abbrev pub lease_line : List ℕ → Result (ℕ × ℕ) SchedWhy
@@ -57,7 +55,7 @@ mode (kind ∷ args) =
     else Err why.Form
 
 -- `mode strict` or `mode snapshot BOUND`
-abbrev pub mode_line : Scope → List ℕ → Result (Option ℕ) SchedWhy
-mode_line scope line = if_built (mode_built scope) (do
+abbrev pub mode_line : List ℕ → Result (Option ℕ) SchedWhy
+mode_line line = do
   args ← behind (codes "mode") (words line)
-  mode args)
+  mode args

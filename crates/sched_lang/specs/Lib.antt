@@ -1,6 +1,5 @@
 pub mod Causes
 pub mod Words
-pub mod Built
 pub mod Header
 pub mod EventForms
 pub mod Reading

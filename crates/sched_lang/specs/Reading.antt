@@ -7,8 +7,6 @@ use Rattle.sched_lang.specs.declared.schedule.SchedWhy.{SchedWhy}
 use Rattle.sched_lang.specs.declared.schedule.SchedWhy.TheVariants as why
 use Rattle.sched_lang.specs.declared.schedule.SchedEnd.{SchedEnd}
 use Rattle.sched_lang.specs.declared.schedule.SchedEnd.TheVariants as end
-use Rattle.sched_lang.specs.declared.built.Scope.{Scope}
-use Rattle.sched_lang.specs.declared.built.Scope.TheVariants as scope
 use Rattle.sched_lang.specs.Causes.{◌>>=◌}
 use Rattle.sched_lang.specs.Words.{lines, passed_over}
 use Rattle.sched_lang.specs.Header.{first_line, switches_line, chain_line, lease_line, ratio_line, mode_line}
@@ -30,53 +28,45 @@ next_line n [] = Err (n, why.Form)
 next_line n (line ∷ ls) = if passed_over line then next_line (n + 1) ls else Ok (n, line, ls)
 
 -- the header at the front of these lines, and the number of the line behind it with the lines from there on
-unfoldable pub header : Scope → ℕ → List (List ℕ) → Result (Header × ℕ × List (List ℕ)) Fault
-header scope n ls = do
+unfoldable pub header : ℕ → List (List ℕ) → Result (Header × ℕ × List (List ℕ)) Fault
+header n ls = do
   l1 ← next_line n ls
   first ← at_line l1.0 (first_line l1.1)
   l2 ← next_line (l1.0 + 1) l1.2
-  switches ← at_line l2.0 (switches_line scope l2.1)
+  switches ← at_line l2.0 (switches_line l2.1)
   l3 ← next_line (l2.0 + 1) l2.2
-  chain ← at_line l3.0 (chain_line scope l3.1)
+  chain ← at_line l3.0 (chain_line l3.1)
   l4 ← next_line (l3.0 + 1) l3.2
   lease ← at_line l4.0 (lease_line l4.1)
   l5 ← next_line (l4.0 + 1) l4.2
   ratio ← at_line l5.0 (ratio_line lease.0 lease.1 l5.1)
   l6 ← next_line (l5.0 + 1) l5.2
-  snapshot ← at_line l6.0 (mode_line scope l6.1)
+  snapshot ← at_line l6.0 (mode_line l6.1)
   Ok (record { switches = switches; chain = chain; t_switch = lease.0; t_store = lease.1; ratio = ratio; snapshot = snapshot }, l6.0 + 1, l6.2)
 
 -- the event of a line, of at most 20,000; so many stand before it. A line that is passed over has none.
-abbrev pub event_in : Scope → ℕ → ℕ → ℕ → List ℕ → Result (Option Event) SchedWhy
-event_in scope switches chain before line =
+abbrev pub event_in : ℕ → ℕ → ℕ → List ℕ → Result (Option Event) SchedWhy
+event_in switches chain before line =
     if passed_over line then Ok None
     else if nat_le 20000 before then Err why.Many
     else (do
-      event ← event_line scope switches chain line
+      event ← event_line switches chain line
       Ok (Some event))
 
 -- the events of these lines, which are numbered from n; so many events stand before them
-abbrev pub events_from : Scope → ℕ → ℕ → ℕ → ℕ → List (List ℕ) → Result (List Event) Fault
-events_from scope switches chain before n [] = Ok []
-events_from scope switches chain before n (line ∷ ls) = do
-  here ← at_line n (event_in scope switches chain before line)
-  more ← events_from scope switches chain (before + length (option_to_list here)) (n + 1) ls
+abbrev pub events_from : ℕ → ℕ → ℕ → ℕ → List (List ℕ) → Result (List Event) Fault
+events_from switches chain before n [] = Ok []
+events_from switches chain before n (line ∷ ls) = do
+  here ← at_line n (event_in switches chain before line)
+  more ← events_from switches chain (before + length (option_to_list here)) (n + 1) ls
   Ok (option_to_list here ++ more)
 
--- the schedule of a text of at most 4,194,304 bytes, as far as this scope goes
-unfoldable pub schedule_by : Scope → List ℕ → Result Schedule Fault
-schedule_by scope text = if nat_lt 4194304 (length text) then Err (0, why.TooLong) else (do
-  h ← header scope 1 (lines text)
-  events ← events_from scope h.0.switches h.0.chain 0 h.1 h.2
+-- the schedule of a text of at most 4,194,304 bytes
+unfoldable pub schedule_of : List ℕ → Result Schedule Fault
+schedule_of text = if nat_lt 4194304 (length text) then Err (0, why.TooLong) else (do
+  h ← header 1 (lines text)
+  events ← events_from h.0.switches h.0.chain 0 h.1 h.2
   Ok (record { switches = h.0.switches; chain = h.0.chain; t_switch = h.0.t_switch; t_store = h.0.t_store; ratio = h.0.ratio; snapshot = h.0.snapshot; events = events }))
-
--- the schedule of a text
-abbrev pub schedule_of : List ℕ → Result Schedule Fault
-schedule_of text = schedule_by scope.Whole text
-
--- the schedule of a text that asks for the narrow world alone
-abbrev pub narrow_schedule_of : List ℕ → Result Schedule Fault
-narrow_schedule_of text = schedule_by scope.Narrow text
 
 -- What a reader returned, by what is seen of it, is what these lines read, unless memory ran out.
 abbrev pub Gives : {X Y : Type 0} → (X → Y) → Result X SchedEnd → Result Y Fault → Type 0

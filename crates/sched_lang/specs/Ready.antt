@@ -1,5 +1,5 @@
 -- What holds of each schedule that is read.
-use Rattle.std.specs.Prelude.{ℕ, ◌+◌, ◌≡◌, ◌<◌, ◌≤◌, List, All, length, None, IfSome}
+use Rattle.std.specs.Prelude.{ℕ, ◌+◌, ◌≡◌, ◌<◌, ◌≤◌, List, All, length, IfSome}
 use Rattle.rp_base.specs.Clocks.{TermsHold}
 use Rattle.rp_base.specs.declared.event.Event.{Event}
 use Rattle.rp_base.specs.declared.node.Node.{Node}
@@ -54,19 +54,3 @@ pub record IsReady (s : Schedule) : Type 0 where
   pub header : IsHeader (header_of s)
   pub events : All (IsEventOf s.switches s.chain) s.events
   pub count : length s.events ≤ 20000
-
--- ---- the narrow world
-
--- a packet of at most 1,500 bytes, or the next frame
-abbrev pub IsNarrowEvent : Event → Type 0
-IsNarrowEvent (Event.Feed port bytes) = length bytes ≤ 1500
-IsNarrowEvent Event.Next = Unit {0}
-IsNarrowEvent _ = ⊥
-
--- a schedule that is read and asks for the narrow world alone: one switch, one replica, strict mode
-pub record IsNarrow (s : Schedule) : Type 0 where
-  pub ready : IsReady s
-  pub one_switch : s.switches ≡ 1
-  pub one_replica : s.chain ≡ 1
-  pub strict : s.snapshot ≡ None
-  pub events : All IsNarrowEvent s.events

@@ -1,9 +1,8 @@
 //! The lines of events.
 ghost use Rattle.std.specs.Prelude.{◌≡◌, ◌+◌, ◌≤◌, [], Some, Ok, ◌==◌, length, count_by, fold, IfOk, OnOk, OnErr, option_map};
 ghost use Rattle.sched_lang.specs.Words.{words, words_behind};
-ghost use Rattle.sched_lang.specs.EventForms.{feed, feedat, frame, one_more, time, boot, node_word, frame_event, node_event, alone, kind_of, event_form, event_line};
+ghost use Rattle.sched_lang.specs.EventForms.{feed, feedat, frame, one_more, time, boot, node_word, frame_event, node_event, alone, pump, kind_of, event_form, event_line};
 
-use crate::built::{Scope, event_built};
 use crate::schedule::SchedWhy;
 use crate::words::{
     both, first_word, no_words, node, number, one_word, packet, switch, three_words, two_words,
@@ -216,6 +215,14 @@ fn alone(event: Event, args: Option<&[u8]>) -> Result<Event, SchedWhy>
     Ok(event)
 }
 
+// `pump` alone on its line is an event, which isn't built.
+fn pump(args: Option<&[u8]>) -> Result<Event, SchedWhy>
+    ensures { result ≡ pump (words_behind (option_map (λ rest. rest.now) args.entry)) }
+{
+    no_words(args)?;
+    Err(SchedWhy::NotYet)
+}
+
 /// The event of a kind, by the words behind its name.
 fn event_form(
     alloc: Global,
@@ -238,7 +245,7 @@ fn event_form(
         Kind::Boot => Ok(boot(switches, args)),
         Kind::Detect => Ok(detect(switches, chain, args)),
         Kind::Announce => Ok(alone(Event::Announce, args)),
-        Kind::Pump => Ok(alone(Event::Pump, args)),
+        Kind::Pump => Ok(pump(args)),
     }
 }
 
@@ -248,25 +255,15 @@ fn event_form(
 /// `NoMemory`.
 pub(crate) fn event(
     alloc: Global,
-    scope: Scope,
     switches: u8,
     chain: u8,
     line: &[u8],
 ) -> Result<Result<Event, SchedWhy>, NoMemory>
-    ensures { IfOk result (λ read. read ≡ event_line scope switches chain line.now) }
+    ensures { IfOk result (λ read. read ≡ event_line switches chain line.now) }
 {
     let (word, args) = first_word(line);
     let Some(kind) = kind_of(word) else {
         return Ok(Err(SchedWhy::Form));
     };
-    match event_form(alloc, switches, chain, kind, args)? {
-        Ok(event) => {
-            if event_built(scope, &event) {
-                Ok(Ok(event))
-            } else {
-                Ok(Err(SchedWhy::NotYet))
-            }
-        }
-        Err(why) => Ok(Err(why)),
-    }
+    event_form(alloc, switches, chain, kind, args)
 }

@@ -5,7 +5,6 @@ ghost use Rattle.rp_base.specs.Clocks.{TermsHold};
 ghost use Rattle.sched_lang.specs.Causes.{seen};
 ghost use Rattle.sched_lang.specs.Header.{first_line, named, switches_line, chain_line, lease_line, ratio_line, mode_line, mode};
 
-use crate::built::{Scope, chain_built, mode_built, switches_built};
 use crate::schedule::SchedWhy;
 use crate::words::{both, first_word, no_words, number, one_word, two_words};
 use rp_base::terms_hold;
@@ -54,26 +53,16 @@ fn named(line: &[u8], name: &[u8], least: u64, most: u64) -> Result<u64, SchedWh
     number(one_word(behind(line, name)?)?, least, most)
 }
 
-pub(crate) fn switches(scope: Scope, line: &[u8]) -> Result<u8, SchedWhy>
-    ensures { result ≡ switches_line scope line.now }
+pub(crate) fn switches(line: &[u8]) -> Result<u8, SchedWhy>
+    ensures { result ≡ switches_line line.now }
 {
-    let n = named(line, b"switches", 1, 8)?;
-    if switches_built(scope, n) {
-        Ok(n as u8)
-    } else {
-        Err(SchedWhy::NotYet)
-    }
+    Ok(named(line, b"switches", 1, 8)? as u8)
 }
 
-pub(crate) fn chain(scope: Scope, line: &[u8]) -> Result<u8, SchedWhy>
-    ensures { result ≡ chain_line scope line.now }
+pub(crate) fn chain(line: &[u8]) -> Result<u8, SchedWhy>
+    ensures { result ≡ chain_line line.now }
 {
-    let n = named(line, b"chain", 1, 5)?;
-    if chain_built(scope, n) {
-        Ok(n as u8)
-    } else {
-        Err(SchedWhy::NotYet)
-    }
+    Ok(named(line, b"chain", 1, 5)? as u8)
 }
 
 /// How long a lease lasts at a switch, and how long the store waits.
@@ -123,13 +112,8 @@ fn mode_of(args: Option<&[u8]>) -> Result<Option<u64>, SchedWhy>
 }
 
 /// The bound of snapshot mode, or `None` in strict mode.
-pub(crate) fn mode(scope: Scope, line: &[u8]) -> Result<Option<u64>, SchedWhy>
-    ensures { result ≡ mode_line scope line.now }
+pub(crate) fn mode(line: &[u8]) -> Result<Option<u64>, SchedWhy>
+    ensures { result ≡ mode_line line.now }
 {
-    let snapshot = mode_of(behind(line, b"mode")?)?;
-    if mode_built(scope, snapshot) {
-        Ok(snapshot)
-    } else {
-        Err(SchedWhy::NotYet)
-    }
+    mode_of(behind(line, b"mode")?)
 }

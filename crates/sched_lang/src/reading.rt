@@ -1,10 +1,9 @@
 //! A whole text.
 ghost use Rattle.std.specs.Prelude.{◌≡◌, ℕ, List, ◌+◌, ◌≤◌, ◌<◌, ◌++◌, length, Ok, IfOk, IfSome};
 ghost use Rattle.sched_lang.specs.Words.{lines};
-ghost use Rattle.sched_lang.specs.Ready.{IsReady, IsNarrow};
-ghost use Rattle.sched_lang.specs.Reading.{Gives, at_line, next_line, header, event_in, events_from, schedule_by, schedule_of, narrow_schedule_of};
+ghost use Rattle.sched_lang.specs.Ready.{IsReady};
+ghost use Rattle.sched_lang.specs.Reading.{Gives, at_line, next_line, header, event_in, events_from, schedule_of};
 
-use crate::built::Scope;
 use crate::event::event;
 use crate::header::{Header, chain, first, lease, mode, ratio, switches};
 use crate::schedule::{Events, SchedEnd, SchedWhy, Schedule};
@@ -50,23 +49,23 @@ fn next_line(number: u64, text: &[u8]) -> Result<(u64, &[u8], &[u8]), SchedEnd>
 
 /// The header at the front of a text, the number of the line behind it, and the text from there on.
 #[tactic(auto, unfolding(crate::specs::Reading::header))]
-fn header(scope: Scope, text: &[u8]) -> Result<(Header, u64, &[u8]), SchedEnd>
+fn header(text: &[u8]) -> Result<(Header, u64, &[u8]), SchedEnd>
     requires { length text.now ≤ 4194304 }
-    ensures value { Gives (λ x. (x.0, x.1, lines x.2.now)) result (header scope 1 (lines text.now)) }
+    ensures value { Gives (λ x. (x.0, x.1, lines x.2.now)) result (header 1 (lines text.now)) }
     ensures within { IfOk result (λ x. x.1 + length x.2.now ≤ 1 + length text.now) }
 {
     let (n, line, rest) = next_line(1, text)?;
     at_line(n, first(line))?;
     let (n, line, rest) = next_line(n + 1, rest)?;
-    let switches = at_line(n, switches(scope, line))?;
+    let switches = at_line(n, switches(line))?;
     let (n, line, rest) = next_line(n + 1, rest)?;
-    let chain = at_line(n, chain(scope, line))?;
+    let chain = at_line(n, chain(line))?;
     let (n, line, rest) = next_line(n + 1, rest)?;
     let (t_switch, t_store) = at_line(n, lease(line))?;
     let (n, line, rest) = next_line(n + 1, rest)?;
     let ratio = at_line(n, ratio(t_switch, t_store, line))?;
     let (n, line, rest) = next_line(n + 1, rest)?;
-    let snapshot = at_line(n, mode(scope, line))?;
+    let snapshot = at_line(n, mode(line))?;
     let header = Header {
         switches,
         chain,
@@ -81,13 +80,12 @@ fn header(scope: Scope, text: &[u8]) -> Result<(Header, u64, &[u8]), SchedEnd>
 // The event of a line, where it isn't passed over. So many events stand before it.
 fn event_in(
     alloc: Global,
-    scope: Scope,
     header: &Header,
     before: u64,
     number: u64,
     line: &[u8],
 ) -> Result<Option<Event>, SchedEnd>
-    ensures value { Gives (λ x. x) result (at_line number (event_in scope header.now.switches header.now.chain before line.now)) }
+    ensures value { Gives (λ x. x) result (at_line number (event_in header.now.switches header.now.chain before line.now)) }
     ensures room { IfOk result (λ event. IfSome event (λ _. before < 20000)) }
 {
     if is_passed_over(line) {
@@ -99,20 +97,14 @@ fn event_in(
             why: SchedWhy::Many,
         });
     }
-    let read = event(alloc, scope, header.switches, header.chain, line)?;
+    let read = event(alloc, header.switches, header.chain, line)?;
     Ok(Some(at_line(number, read)?))
 }
 
 // The events of a text, which begins with line `number`.
-fn events(
-    alloc: Global,
-    scope: Scope,
-    header: &Header,
-    number: u64,
-    text: &[u8],
-) -> Result<Events, SchedEnd>
+fn events(alloc: Global, header: &Header, number: u64, text: &[u8]) -> Result<Events, SchedEnd>
     requires { number + length text.now ≤ 5000000 }
-    ensures value { Gives (λ x. x) result (events_from scope header.now.switches header.now.chain 0 number (lines text.now)) }
+    ensures value { Gives (λ x. x) result (events_from header.now.switches header.now.chain 0 number (lines text.now)) }
     ensures count { IfOk result (λ events. length events ≤ 20000) }
 {
     let mut events = Events::new(alloc);
@@ -120,7 +112,7 @@ fn events(
     let mut rest = text;
     while !rest.is_empty() {
         let (line, after) = first_line(rest);
-        if let Some(event) = event_in(alloc, scope, header, events.len(), number, line)? {
+        if let Some(event) = event_in(alloc, header, events.len(), number, line)? {
             events.push(event)?;
         }
         number += 1;
@@ -129,10 +121,10 @@ fn events(
     Ok(events)
 }
 
-// Reads a schedule, as far as this scope goes.
-#[tactic(auto, unfolding(crate::specs::Reading::schedule_by))]
-fn read_in(alloc: Global, scope: Scope, b: &[u8]) -> Result<Schedule, SchedEnd>
-    ensures { Gives (λ s. s) result (schedule_by scope b.now) }
+// Reads a schedule.
+#[tactic(auto, unfolding(crate::specs::Reading::schedule_of))]
+fn schedule(alloc: Global, b: &[u8]) -> Result<Schedule, SchedEnd>
+    ensures { Gives (λ s. s) result (schedule_of b.now) }
 {
     if b.len() > 4_194_304 {
         return Err(SchedEnd::Refused {
@@ -140,8 +132,8 @@ fn read_in(alloc: Global, scope: Scope, b: &[u8]) -> Result<Schedule, SchedEnd>
             why: SchedWhy::TooLong,
         });
     }
-    let (header, number, rest) = header(scope, b)?;
-    let events = events(alloc, scope, &header, number, rest)?;
+    let (header, number, rest) = header(b)?;
+    let events = events(alloc, &header, number, rest)?;
     Ok(Schedule {
         switches: header.switches,
         chain: header.chain,
@@ -161,33 +153,11 @@ pub fn read(alloc: Global, b: &[u8]) -> Result<Schedule, SchedEnd>
     ensures exact { Gives (λ s. s) result (schedule_of b.now) }
     ensures ready { IfOk result IsReady }
 {
-    read_in(alloc, Scope::Whole, b)
-}
-
-/// Reads a schedule of one switch and one replica in strict mode, with the events `feed` and `next`.
-///
-/// # Errors
-/// `Refused` with the first line that fails and its cause, which is `NotYet` for a line that asks for more, or `NoMemory`.
-pub fn read_narrow(alloc: Global, b: &[u8]) -> Result<Schedule, SchedEnd>
-    ensures exact { Gives (λ s. s) result (narrow_schedule_of b.now) }
-    ensures narrow { IfOk result IsNarrow }
-{
-    read_in(alloc, Scope::Narrow, b)
+    schedule(alloc, b)
 }
 
 /// Each schedule that is accepted is ready to run: nodes, terms and a bound in their ranges, terms that hold, and at most 20,000
 /// events, each of which names nodes of this run alone.
 pub fn accepted_schedules_are_ready()
     ensures { (text : List ℕ) → IfOk (schedule_of text) IsReady }
-{}
-
-/// Each schedule that is accepted as narrow has one switch and one replica, in strict mode, and feeds packets and takes next frames
-/// alone.
-pub fn narrow_schedules_are_narrow()
-    ensures { (text : List ℕ) → IfOk (narrow_schedule_of text) IsNarrow }
-{}
-
-/// Each schedule that is accepted as narrow is accepted, and is the same.
-pub fn narrow_schedules_are_schedules()
-    ensures { (text : List ℕ) → IfOk (narrow_schedule_of text) (λ s. schedule_of text ≡ Ok s) }
 {}

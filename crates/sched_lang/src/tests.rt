@@ -10,20 +10,12 @@ const ONE_PACKET: &[u8] =
     b"rp-schedule 1\nswitches 1\nchain 1\nlease 1000 1100\nratio 50\nmode strict\nfeed 7 6121\nnext\nnext\nnext\nnext\n";
 
 // How many events a schedule has, or where it is refused. No memory is line 0 and `NotYet`, which no text gives.
-fn count_in(read: Result<Schedule, SchedEnd>) -> Result<u64, (u64, SchedWhy)> {
-    match read {
+fn answer(alloc: Global, text: &[u8]) -> Result<u64, (u64, SchedWhy)> {
+    match read(alloc, text) {
         Ok(schedule) => Ok(schedule.events.len()),
         Err(SchedEnd::Refused { line, why }) => Err((line, why)),
         Err(SchedEnd::NoMemory) => Err((0, SchedWhy::NotYet)),
     }
-}
-
-fn answer(alloc: Global, text: &[u8]) -> Result<u64, (u64, SchedWhy)> {
-    count_in(read(alloc, text))
-}
-
-fn narrow_answer(alloc: Global, text: &[u8]) -> Result<u64, (u64, SchedWhy)> {
-    count_in(read_narrow(alloc, text))
 }
 
 #[test]
@@ -244,45 +236,6 @@ fn nodes_of_the_run(rt: HostRuntime) -> Result<(), Fail> {
         let mut text = Vec::from_slice(rt.alloc(), header)?;
         text.extend_from_slice(lines)?;
         assert_eq!(rt; answer(rt.alloc(), &text), want, "a row of the table");
-    }
-    Ok(())
-}
-
-#[test]
-fn the_narrow_world(rt: HostRuntime) -> Result<(), Fail> {
-    let not_yet = SchedWhy::NotYet;
-    assert_eq!(rt; narrow_answer(rt.alloc(), ONE_PACKET), Ok(5));
-    let headers: [(&[u8], u64); 3] = [
-        (b"rp-schedule 1\nswitches 2", 2),
-        (b"rp-schedule 1\nswitches 1\nchain 5\nno line", 3),
-        (
-            b"rp-schedule 1\nswitches 1\nchain 1\nlease 200 201\n#\nratio 5\nmode snapshot 100",
-            7,
-        ),
-    ];
-    for (text, line) in headers {
-        assert_eq!(rt;
-            narrow_answer(rt.alloc(), text),
-            Err((line, not_yet)),
-            "line {line}"
-        );
-    }
-    let rows: [&[u8]; 9] = [
-        b"feedat s0 7 6121",
-        b"deliver 0",
-        b"drop 2",
-        b"time 1051 1000",
-        b"alarm s0",
-        b"fail r0",
-        b"boot s0",
-        b"detect r0",
-        b"announce",
-    ];
-    for line in rows {
-        let mut text = Vec::from_slice(rt.alloc(), HEADER)?;
-        text.extend_from_slice(line)?;
-        assert_eq!(rt; answer(rt.alloc(), &text), Ok(1));
-        assert_eq!(rt; narrow_answer(rt.alloc(), &text), Err((7, not_yet)));
     }
     Ok(())
 }

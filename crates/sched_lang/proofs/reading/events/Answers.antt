@@ -16,10 +16,10 @@ loop-rest-preserved c =
       | in-Some+in_ok-push w ↦ grind (arith, common_steps)
       | in_default w ↦ grind (arith, common_steps, append-nil)
     ] in
-    let step = with_front-line c.args.scope c.args.header.now.switches c.args.header.now.chain c.loop-rest.number c.loop-rest.events c.in_ok-event.field-0 c.first_line.result.0.now (lines c.first_line.result.1.now) (grind (arith, common_steps, c.in_ok-event.ensures.value)) in
+    let step = with_front-line c.args.header.now.switches c.args.header.now.chain c.loop-rest.number c.loop-rest.events c.in_ok-event.field-0 c.first_line.result.0.now (lines c.first_line.result.1.now) (grind (arith, common_steps, c.in_ok-event.ensures.value)) in
     let room : IfSome c.in_ok-event.field-0 (λ _. length c.loop-rest.events < 20000) = rw (← c.len.ensures) c.in_ok-event.ensures.room in
     record {
-      same = rw made (step ∙ ap (λ (ls : List (List ℕ)). with_front c.loop-rest.events (events_from c.args.scope c.args.header.now.switches c.args.header.now.chain (length c.loop-rest.events) c.loop-rest.number ls)) (sym c.first_line.ensures.lines) ∙ c.loop-rest.invariant.same);
+      same = rw made (step ∙ ap (λ (ls : List (List ℕ)). with_front c.loop-rest.events (events_from c.args.header.now.switches c.args.header.now.chain (length c.loop-rest.events) c.loop-rest.number ls)) (sym c.first_line.ensures.lines) ∙ c.loop-rest.invariant.same);
       count = rw made (count-one_more c.loop-rest.events c.in_ok-event.field-0 c.loop-rest.invariant.count room);
       within = omega (arith, c.first_line.ensures.shorter, c.loop-rest.invariant.within);
     }

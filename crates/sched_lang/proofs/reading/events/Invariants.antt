@@ -6,7 +6,7 @@ use Rattle.sched_lang.proofs.reading.events.Given as goal
 
 abbrev pub invariant-loop-rest : goal.invariant-loop-rest
 invariant-loop-rest l = record {
-  same : with_front l.events (events_from l.scope l.header.switches l.header.chain (length l.events) l.number (lines l.rest)) ≡ events_from l.scope l.header.switches l.header.chain 0 l.fn.number (lines l.fn.text);
+  same : with_front l.events (events_from l.header.switches l.header.chain (length l.events) l.number (lines l.rest)) ≡ events_from l.header.switches l.header.chain 0 l.fn.number (lines l.fn.text);
   count : length l.events ≤ 20000;
   within : l.number + length l.rest ≤ l.fn.number + length l.fn.text;
 }

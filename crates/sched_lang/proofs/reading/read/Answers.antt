@@ -5,4 +5,4 @@ use Rattle.sched_lang.proofs.Accepted.{accepted-ready}
 use Rattle.sched_lang.proofs.reading.read.Goals as goal
 
 pub returns-clause-ready : goal.returns-clause-ready
-returns-clause-ready c = of_given IsReady c.read_in.result (schedule_of c.args.b.now) c.read_in.ensures (accepted-ready c.args.b.now)
+returns-clause-ready c = of_given IsReady c.schedule.result (schedule_of c.args.b.now) c.schedule.ensures (accepted-ready c.args.b.now)

@@ -1,0 +1,4 @@
+pub mod Cuts
+pub mod Spelled
+pub mod Again
+pub mod Whole
