@@ -1,0 +1,7 @@
+//! What one switch that never fails makes of a schedule: each packet that is fed is processed at once, on the cells of its flow.
+#![tactic(auto)]
+
+mod flow;
+mod switch;
+
+pub use switch::PlainSwitch;
