@@ -5,6 +5,7 @@ use Rattle.proto_data.specs.declared.message.Entry.{Entry}
 use Rattle.proto_data.specs.declared.message.Record.{Record}
 use Rattle.proto_model.specs.Records.{Records, applied}
 
+-- a store's records, and how many cells each flow has
 pub record Leases : Type 0 where
   pub cell_count : ℕ
   pub records : Records

@@ -9,6 +9,7 @@ use Rattle.link_arena.specs.Lists.{Lists}
 
 -- ---- links of one kind, by node
 
+-- each node's link, if there is such a node
 abbrev pub Links : Type 0
 Links = ℕ → Option Link
 
@@ -27,6 +28,7 @@ Row f l before [] behind = ⊤
 Row f l before (x ∷ xs) behind =
     (f x ≡ Some (record { list = l; prev = before; next = first_of xs behind })) × Row f l (Some x) xs behind
 
+-- a node is one of these
 abbrev pub In : List ℕ → ℕ → Type 0
 In [] x = ⊥
 In (y ∷ ys) x = (y ≡ x) ⊎ In ys x
@@ -36,10 +38,12 @@ abbrev pub Apart : List ℕ → Type 0
 Apart [] = ⊤
 Apart (x ∷ xs) = (In xs x → ⊥) × Apart xs
 
+-- the node behind the one with this link
 abbrev pub behind : Option Link → Option ℕ
 behind None = None
 behind (Some k) = k.next
 
+-- a node that is there, and those behind it
 abbrev pub walked : ℕ → Option Link → List ℕ → List ℕ
 walked x None rest = []
 walked x (Some k) rest = x ∷ rest
@@ -50,6 +54,7 @@ walk f zero at = []
 walk f (suc n) None = []
 walk f (suc n) (Some x) = walked x (f x) (walk f n (behind (f x)))
 
+-- the list of this number, empty where there is none
 abbrev pub list_at : List (List ℕ) → ℕ → List ℕ
 list_at lists l = slice_index_or lists l []
 
@@ -57,6 +62,7 @@ list_at lists l = slice_index_or lists l []
 abbrev pub off : ℕ → List ℕ → List ℕ
 off x xs = filter (λ y. not (y == x)) xs
 
+-- the ends of a list
 abbrev pub ends_of : List ℕ → Ends
 ends_of xs = record { front = first_of xs None; back = last_of None xs; count = length xs }
 
@@ -76,12 +82,15 @@ Home f lists = (x : ℕ) (k : Link) → f x ≡ Some k → In (list_at lists k.l
 
 -- ---- what a call does to links and ends
 
+-- a link with this node behind
 abbrev pub put_next : Option ℕ → Link → Link
 put_next n k = record k { next = n }
 
+-- a link with this node before
 abbrev pub put_prev : Option ℕ → Link → Link
 put_prev p k = record k { prev = p }
 
+-- the link of a node that is put last on list l, behind p
 abbrev pub put_place : ℕ → Option ℕ → Link → Link
 put_place l p k = record { list = l; prev = p; next = None }
 
@@ -104,26 +113,32 @@ longer e x = record { front = first_one e.front; back = Some x; count = e.count 
 
 -- ---- nodes
 
+-- the other kind of lists
 abbrev pub other : Which → Which
 other Which.A = Which.B
 other Which.B = Which.A
 
+-- the ends of the lists of one kind
 abbrev pub of_kind : Which → List Ends → List Ends → List Ends
 of_kind Which.A a b = a
 of_kind Which.B a b = b
 
 module _ {T : Type 0} where
+  -- a node's link of one kind
   abbrev pub link : Which → Node T → Link
   link Which.A n = n.a
   link Which.B n = n.b
 
+  -- a node with this link of one kind
   abbrev pub with_link : Which → Node T → Link → Node T
   with_link Which.A n l = record n { a = l }
   with_link Which.B n l = record n { b = l }
 
+  -- the links of one kind in a slab
   abbrev pub link_at : Which → Slab (Node T) → Links
   link_at which s x = option_map (link which) (get s x)
 
+  -- the value of a node, if it is there
   abbrev pub value_at : Slab (Node T) → ℕ → Option T
   value_at s x = option_map (λ (n : Node T). n.value) (get s x)
 
@@ -132,23 +147,28 @@ module _ {T : Type 0} where
   edited_to which e s x None = s
   edited_to which e s x (Some n) = with_value s x (with_link which n (e (link which n)))
 
+  -- the same of a node that may be none
   abbrev pub edited : Which → (Link → Link) → Slab (Node T) → Option ℕ → Slab (Node T)
   edited which e s None = s
   edited which e s (Some x) = edited_to which e s x (get s x)
 
   -- ---- what is seen
 
+  -- a node that has a value, with it
   abbrev pub paired : ℕ → Option T → List (ℕ × T) → List (ℕ × T)
   paired x None rest = rest
   paired x (Some v) rest = (x, v) ∷ rest
 
+  -- these nodes with their values
   abbrev pub pairs : Slab (Node T) → List ℕ → List (ℕ × T)
   pairs s [] = []
   pairs s (x ∷ xs) = paired x (value_at s x) (pairs s xs)
 
+  -- the lists of one kind, by their nodes
   abbrev pub lists_of : Which → Slab (Node T) → List Ends → List (List ℕ)
   lists_of which s ends = lists_in (link_at which s) ends
 
+  -- what is seen of an arena
   abbrev pub seen : Slab (Node T) → List Ends → List Ends → ℕ → Lists T
   seen s ends_a ends_b room =
       record {

@@ -9,6 +9,7 @@ pub record Lists (T : Type 0) : Type 0 where
   pub b : List (List (ℕ × T))
   pub room : ℕ
 
+-- a code for the lists of an arena, by one for its values
 abbrev pub lists_code : {T : Type 0} → Coded T → Coded (Lists T)
 lists_code {T} code =
     code_by
@@ -18,6 +19,7 @@ lists_code {T} code =
     (λ p. record { a = p.0; b = p.1.0; room = p.1.1 })
     (λ _. refl)
 
+-- the first, or else the second
 abbrev pub or_else : {X : Type 0} → Option X → Option X → Option X
 or_else None y = y
 or_else (Some x) y = Some x
@@ -42,6 +44,7 @@ module _ {T : Type 0} where
   abbrev pub revalued : ℕ → T → List (ℕ × T) → List (ℕ × T)
   revalued id v ps = map (λ p. if p.0 == id then (id, v) else p) ps
 
+  -- the name of the first node
   abbrev pub first_id : List (ℕ × T) → Option ℕ
   first_id [] = None
   first_id (p ∷ ps) = Some p.0
@@ -69,6 +72,7 @@ module _ {T : Type 0} where
 
   -- ---- an arena
 
+  -- the lists of a kind
   abbrev pub lists : Which → Lists T → List (List (ℕ × T))
   lists Which.A s = s.a
   lists Which.B s = s.b
@@ -93,12 +97,15 @@ module _ {T : Type 0} where
   abbrev pub with_node : Lists T → ℕ → ℕ → ℕ → T → Lists T
   with_node s a b id v = record { a = appended s.a a (id, v); b = appended s.b b (id, v); room = s.room }
 
+  -- a node is taken off both its lists
   abbrev pub without_node : Lists T → ℕ → Lists T
   without_node s id = record { a = map (without id) s.a; b = map (without id) s.b; room = s.room }
 
+  -- a node comes last on its list of one kind
   abbrev pub with_moved : Which → Lists T → ℕ → Lists T
   with_moved Which.A s id = record s { a = map (moved id) s.a }
   with_moved Which.B s id = record s { b = map (moved id) s.b }
 
+  -- a node gets another value
   abbrev pub with_value : Lists T → ℕ → T → Lists T
   with_value s id v = record { a = map (revalued id v) s.a; b = map (revalued id v) s.b; room = s.room }

@@ -2,7 +2,7 @@
 
 use crate::text::checked_text;
 use p4_check::CheckEnd;
-use rp_base::{Bytes, Refused, Why};
+use rp_base::{Bytes, NoMemory, Refused, Why};
 use std::alloc::Global;
 use std::test::Fail;
 
@@ -16,6 +16,9 @@ const HEAD: &[u8] = b"header h_t { bit<8> k; bit<8> i; }\n\
 // A parser that takes one header.
 const START: &[u8] = b"\x20 state start { p.extract(h.h); transition accept; }\n\
     ";
+
+// Statements that only tell the flow.
+const KEYED: &[u8] = b"    flow_key(h.h.k);\n    ";
 
 // What stands between the states and the declarations of the control.
 const CELLS: &[u8] = b"}\n\
@@ -37,226 +40,280 @@ const TAIL: &[u8] = b"\n\
     RpSwitch(P(), I(), D()) main;\n\
     ";
 
-fn program(alloc: Global, states: &[u8], locals: &[u8], body: &[u8]) -> Result<Bytes, Fail> {
-    let mut text = Bytes::new(alloc);
-    for piece in [HEAD, states, CELLS, locals, APPLY, body, TAIL] {
-        text.append(piece)?;
-    }
-    Ok(text)
+// What is put between these pieces of a program.
+#[derive(Clone, Copy)]
+struct Parts<'a> {
+    states: &'a [u8],
+    locals: &'a [u8],
+    body: &'a [u8],
 }
 
-// How many cells an accepted program has, or why it is refused.
-fn verdict(alloc: Global, text: &[u8]) -> Result<u16, CheckEnd> {
-    match checked_text(alloc, text) {
-        Ok(c) => Ok(c.cells()),
-        Err(end) => Err(end),
+impl Parts<'_> {
+    // A program with these states of the parser.
+    fn of_states(states: &[u8]) -> Parts<'_> {
+        Parts {
+            states,
+            locals: b"",
+            body: KEYED,
+        }
     }
+
+    // A program with these declarations in its control.
+    fn of_locals(locals: &[u8]) -> Parts<'_> {
+        Parts {
+            states: START,
+            locals,
+            body: KEYED,
+        }
+    }
+
+    // A program with these statements.
+    fn of_body(body: &[u8]) -> Parts<'_> {
+        Parts {
+            states: START,
+            locals: b"",
+            body,
+        }
+    }
+
+    // A program with these declarations and statements.
+    fn of_control<'a>(locals: &'a [u8], body: &'a [u8]) -> Parts<'a> {
+        Parts {
+            states: START,
+            locals,
+            body,
+        }
+    }
+
+    fn text(self, alloc: Global) -> Result<Bytes, NoMemory> {
+        let mut text = Bytes::new(alloc);
+        for piece in [
+            HEAD,
+            self.states,
+            CELLS,
+            self.locals,
+            APPLY,
+            self.body,
+            TAIL,
+        ] {
+            text.append(piece)?;
+        }
+        Ok(text)
+    }
+
+    // How many cells the program has, or why it is refused.
+    fn verdict(self, alloc: Global) -> Result<u16, CheckEnd> {
+        let text = self.text(alloc)?;
+        match checked_text(alloc, text.as_slice()) {
+            Ok(c) => Ok(c.cells()),
+            Err(end) => Err(end),
+        }
+    }
+}
+
+// A refusal at this place for this cause.
+fn refused(at: u64, why: Why) -> Result<u16, CheckEnd> {
+    Err(CheckEnd::Refused(Refused { at, why }))
 }
 
 #[test]
-fn faults_have_their_places_and_causes(rt: HostRuntime) -> Result<(), Fail> {
-    for (states, locals, body, at, why) in [
+fn names_are_declared_and_listed_once(rt: HostRuntime) -> Result<(), Fail> {
+    for (parts, at, why) in [
         // a name that isn't declared
         (
-            START,
-            b"".as_slice(),
-            b"    flow_key(h.h.k);\n    q = 1;".as_slice(),
+            Parts::of_body(b"    flow_key(h.h.k);\n    q = 1;"),
             399,
             Why::Unknown,
         ),
         // no state start
         (
-            b"  state begin { p.extract(h.h); transition accept; }\n".as_slice(),
-            b"".as_slice(),
-            b"    flow_key(h.h.k);\n    ".as_slice(),
+            Parts::of_states(b"  state begin { p.extract(h.h); transition accept; }\n"),
             118,
             Why::Unknown,
         ),
         // an action listed twice
         (
-            START,
-            b"  action a1(bit<8> v) { m.x = v; }\n  action a2() { m.x = 2; }\n  table t {\n    key = { h.h.k : exact; }\n    actions = { NoAction; a2; NoAction; }\n  }\n".as_slice(),
-            b"    flow_key(h.h.k);\n    ".as_slice(),
+            Parts::of_locals(
+                b"  action a1(bit<8> v) { m.x = v; }\n  action a2() { m.x = 2; }\n  table t {\n    key = { h.h.k : exact; }\n    actions = { NoAction; a2; NoAction; }\n  }\n",
+            ),
             465,
             Why::Twice,
         ),
+    ] {
+        assert_eq!(rt; parts.verdict(rt.alloc()), refused(at, why));
+    }
+    Ok(())
+}
+
+#[test]
+fn kinds_are_those_that_are_wanted(rt: HostRuntime) -> Result<(), Fail> {
+    for (parts, at) in [
         // bits for a bool
-        (
-            START,
-            b"".as_slice(),
-            b"    flow_key(h.h.k);\n    m.b = 1;".as_slice(),
-            405,
-            Why::Kind,
-        ),
+        (Parts::of_body(b"    flow_key(h.h.k);\n    m.b = 1;"), 405),
         // a write to a parameter
         (
-            START,
-            b"  action a3(bit<8> v) { v[3:0] = 1; }\n".as_slice(),
-            b"    flow_key(h.h.k);\n    ".as_slice(),
+            Parts::of_locals(b"  action a3(bit<8> v) { v[3:0] = 1; }\n"),
             356,
-            Why::Kind,
         ),
         // a shift by a bool
         (
-            START,
-            b"".as_slice(),
-            b"    flow_key(h.h.k);\n    m.x = m.x << m.b;".as_slice(),
+            Parts::of_body(b"    flow_key(h.h.k);\n    m.x = m.x << m.b;"),
             412,
-            Why::Kind,
         ),
         // a table that is called
         (
-            START,
-            b"  action a2() { m.x = 2; }\n  table t {\n    key = { h.h.k : exact; }\n    actions = { a2; }\n  }\n".as_slice(),
-            b"    flow_key(h.h.k);\n    t();".as_slice(),
+            Parts::of_control(
+                b"  action a2() { m.x = 2; }\n  table t {\n    key = { h.h.k : exact; }\n    actions = { a2; }\n  }\n",
+                b"    flow_key(h.h.k);\n    t();",
+            ),
             493,
-            Why::Kind,
         ),
+    ] {
+        assert_eq!(rt; parts.verdict(rt.alloc()), refused(at, Why::Kind));
+    }
+    Ok(())
+}
+
+#[test]
+fn literals_and_indices_have_widths(rt: HostRuntime) -> Result<(), Fail> {
+    for (parts, at, why) in [
         // a literal that nothing sizes
         (
-            b"  state start { p.extract(h.h); transition select(7) { default: accept; } }\n".as_slice(),
-            b"".as_slice(),
-            b"    flow_key(h.h.k);\n    ".as_slice(),
+            Parts::of_states(
+                b"  state start { p.extract(h.h); transition select(7) { default: accept; } }\n",
+            ),
             224,
             Why::Width,
         ),
         // an index of eight bits
         (
-            START,
-            b"".as_slice(),
-            b"    flow_key(h.h.k);\n    a.write(m.x, 1);".as_slice(),
+            Parts::of_body(b"    flow_key(h.h.k);\n    a.write(m.x, 1);"),
             407,
             Why::Width,
         ),
         // a literal one too large for its own width
         (
-            START,
-            b"".as_slice(),
-            b"    flow_key(h.h.k);\n    m.x = 8w0 + 8w256;".as_slice(),
+            Parts::of_body(b"    flow_key(h.h.k);\n    m.x = 8w0 + 8w256;"),
             411,
             Why::Fit,
         ),
+    ] {
+        assert_eq!(rt; parts.verdict(rt.alloc()), refused(at, why));
+    }
+    Ok(())
+}
+
+#[test]
+fn states_form_no_cycle(rt: HostRuntime) -> Result<(), Fail> {
+    for (states, at) in [
         // two states
         (
             b"  state start { p.extract(h.h); transition more; }\n  state more { transition start; }\n".as_slice(),
-            b"".as_slice(),
-            b"    flow_key(h.h.k);\n    ".as_slice(),
             217,
-            Why::Cycle,
         ),
         // states that are never reached
         (
             b"  state start { p.extract(h.h); transition last; }\n  state last { transition accept; }\n  state x1 { transition x2; }\n  state x2 { transition x1; }\n".as_slice(),
-            b"".as_slice(),
-            b"    flow_key(h.h.k);\n    ".as_slice(),
             285,
-            Why::Cycle,
         ),
+    ] {
+        let found = Parts::of_states(states).verdict(rt.alloc());
+        assert_eq!(rt; found, refused(at, Why::Cycle));
+    }
+    Ok(())
+}
+
+#[test]
+fn cells_are_reached_behind_one_flow_key(rt: HostRuntime) -> Result<(), Fail> {
+    for (parts, at) in [
         // a branch of an if that isn't last
         (
-            START,
-            b"".as_slice(),
-            b"    \n    if (m.b) { flow_key(h.h.k); m.x = c.read(); } m.x = 1;".as_slice(),
+            Parts::of_body(b"    \n    if (m.b) { flow_key(h.h.k); m.x = c.read(); } m.x = 1;"),
             394,
-            Why::Key,
         ),
         // a second flow key
         (
-            START,
-            b"".as_slice(),
-            b"    flow_key(h.h.k);\n    m.x = c.read(); flow_key(h.h.i);".as_slice(),
+            Parts::of_body(b"    flow_key(h.h.k);\n    m.x = c.read(); flow_key(h.h.i);"),
             415,
-            Why::Key,
         ),
         // an action that no body calls
-        (
-            START,
-            b"  action a3() { c.write(1); }\n".as_slice(),
-            b"    flow_key(h.h.k);\n    ".as_slice(),
-            348,
-            Why::Key,
-        ),
+        (Parts::of_locals(b"  action a3() { c.write(1); }\n"), 348),
         // an action that is called outside a body
         (
-            START,
-            b"  action a3() { m.x = 2; m.x = c.read(); }\n  action a4() { c.write(1); }\n".as_slice(),
-            b"    flow_key(h.h.k);\n    a4();".as_slice(),
+            Parts::of_control(
+                b"  action a3() { m.x = 2; m.x = c.read(); }\n  action a4() { c.write(1); }\n",
+                b"    flow_key(h.h.k);\n    a4();",
+            ),
             357,
-            Why::Key,
         ),
+    ] {
+        assert_eq!(rt; parts.verdict(rt.alloc()), refused(at, Why::Key));
+    }
+    Ok(())
+}
+
+#[test]
+fn entries_have_masks_and_differ(rt: HostRuntime) -> Result<(), Fail> {
+    for (locals, at) in [
         // a mask with a hole
         (
-            START,
             b"  action a1(bit<8> v) { m.x = v; }\n  action a2() { m.x = 2; }\n  table t {\n    key = { h.h.k : lpm; }\n    actions = { a1; a2; NoAction; }\n    const entries = {\n      1 &&& 0b10100000 : a2();\n    }\n  }\n".as_slice(),
-            b"    flow_key(h.h.k);\n    ".as_slice(),
             503,
-            Why::Entry,
         ),
         // equal under their masks
         (
-            START,
             b"  action a1(bit<8> v) { m.x = v; }\n  action a2() { m.x = 2; }\n  table t {\n    key = { h.h.k : ternary; h.h.i : exact; }\n    actions = { a1; a2; NoAction; }\n    const entries = {\n      (_, 1) : a2(); (0, 1) : a2(); (7 &&& 0, 1) : a1(3);\n    }\n  }\n".as_slice(),
-            b"    flow_key(h.h.k);\n    ".as_slice(),
             546,
-            Why::Entry,
         ),
+    ] {
+        let found = Parts::of_locals(locals).verdict(rt.alloc());
+        assert_eq!(rt; found, refused(at, Why::Entry));
+    }
+    Ok(())
+}
+
+#[test]
+fn the_first_fault_is_told(rt: HostRuntime) -> Result<(), Fail> {
+    for (parts, at, why) in [
         // the least place, though met last
         (
-            START,
-            b"  action a3() { c.write(1); }\n".as_slice(),
-            b"    flow_key(h.h.k);\n    m.q = 1; m.x = 256;".as_slice(),
+            Parts::of_control(
+                b"  action a3() { c.write(1); }\n",
+                b"    flow_key(h.h.k);\n    m.q = 1; m.x = 256;",
+            ),
             348,
             Why::Key,
         ),
         // what stands above a fault is silent
         (
-            START,
-            b"".as_slice(),
-            b"    flow_key(h.h.k);\n    m.x = zz + 300;".as_slice(),
+            Parts::of_body(b"    flow_key(h.h.k);\n    m.x = zz + 300;"),
             405,
             Why::Unknown,
         ),
     ] {
-        let text = program(rt.alloc(), states, locals, body)?;
-        assert_eq!(rt;
-            verdict(rt.alloc(), text.as_slice()),
-            Err(CheckEnd::Refused(Refused { at, why }))
-        );
+        assert_eq!(rt; parts.verdict(rt.alloc()), refused(at, why));
     }
     Ok(())
 }
 
 #[test]
 fn good_programs_are_accepted(rt: HostRuntime) -> Result<(), Fail> {
-    for (locals, body) in [
+    for parts in [
         // a cell and an array
-        (
-            b"".as_slice(),
-            b"    flow_key(h.h.k); m.x = c.read(); a.write(1, m.x + 1);".as_slice(),
-        ),
+        Parts::of_body(b"    flow_key(h.h.k); m.x = c.read(); a.write(1, m.x + 1);"),
         // a name again in a sibling block, and one behind its block
-        (
-            b"".as_slice(),
-            b"    { bit<8> v = 1; m.x = v; } { bit<16> v; m.y = v; } bit<1> v = 1w1;".as_slice(),
-        ),
+        Parts::of_body(b"    { bit<8> v = 1; m.x = v; } { bit<16> v; m.y = v; } bit<1> v = 1w1;"),
         // a literal takes the width of the other operand, and a shift's sides need not agree
-        (
-            b"".as_slice(),
-            b"    m.y = m.y + 300; m.x = m.x << m.y; m.b = 300 == m.y;".as_slice(),
-        ),
+        Parts::of_body(b"    m.y = m.y + 300; m.x = m.x << m.y; m.b = 300 == m.y;"),
         // a flow key in the last branch of the last statement
-        (
-            b"".as_slice(),
-            b"    if (m.b) m.x = 1; else { flow_key(h.h.k ++ h.h.i); c.write(m.x); }".as_slice(),
-        ),
+        Parts::of_body(b"    if (m.b) m.x = 1; else { flow_key(h.h.k ++ h.h.i); c.write(m.x); }"),
         // an action that a body's table lists
-        (
-            b"  action put(bit<8> v) { c.write(v); }\n  table t { key = { h.h.k : lpm; } actions = { put; } const entries = { 16 &&& 240 : put(1); 16 &&& 248 : put(2); } }\n".as_slice(),
-            b"    flow_key(h.h.k); t.apply();".as_slice(),
+        Parts::of_control(
+            b"  action put(bit<8> v) { c.write(v); }\n  table t { key = { h.h.k : lpm; } actions = { put; } const entries = { 16 &&& 240 : put(1); 16 &&& 248 : put(2); } }\n",
+            b"    flow_key(h.h.k); t.apply();",
         ),
     ] {
-        let text = program(rt.alloc(), START, locals, body)?;
-        assert_eq!(rt; verdict(rt.alloc(), text.as_slice()), Ok(5));
+        assert_eq!(rt; parts.verdict(rt.alloc()), Ok(5));
     }
     Ok(())
 }

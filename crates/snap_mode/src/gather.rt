@@ -14,12 +14,15 @@ use std::marker::Model;
 /// A chunk of a round, as it comes to the store.
 #[derive(Debug, Drop)]
 pub struct SnapPart {
+    /// The epoch of the lease under which the round runs.
     pub epoch: u64,
+    /// The round's number within its epoch.
     pub round: u64,
     /// The place of the chunk, counted from 0.
     pub chunk: u8,
     /// How many chunks the round has.
     pub chunks: u8,
+    /// The cells of this chunk, in order.
     pub cells: Chunk,
 }
 

@@ -24,7 +24,9 @@ use switch_slot::Slot;
 /// A flow's key, with the place of its slot in order of making, from 0.
 #[derive(Clone, Copy, Debug)]
 pub struct Flow {
+    /// The flow's key.
     pub key: Key,
+    /// The place of its slot, below 1,024.
     pub place: usize,
 }
 

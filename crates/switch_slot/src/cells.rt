@@ -21,6 +21,7 @@ pub struct Part {
     pub chunk: u8,
     /// How many chunks the round has.
     pub chunks: u8,
+    /// The cells of this chunk, in order, as they stood when the round began.
     pub cells: Chunk,
 }
 

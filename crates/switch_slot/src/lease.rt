@@ -8,9 +8,13 @@ use lease_state::{Asking, Held, Idle, Lapsed};
 /// How a slot stands with the store.
 #[derive(Debug, Drop)]
 pub enum SlotLease {
+    /// No lease, and none is asked for.
     Idle(Idle),
+    /// A lease is asked for.
     Asking(Asking),
+    /// A lease was granted, and its term isn't over.
     Held(Held),
+    /// A lease was granted, and its term is over: an acknowledgement may renew it.
     Lapsed(Lapsed),
 }
 

@@ -74,6 +74,7 @@ impl Slot {
         self.lease = lease.lapse(now);
     }
 
+    /// How the slot stands with the store. What has ended shows as Lapsed only behind a `lapse`.
     pub fn lease(&self) -> &SlotLease
         ensures { lease_of result.now ≡ self.now.lease }
     {
