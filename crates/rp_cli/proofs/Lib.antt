@@ -3,3 +3,4 @@ pub mod Schedules
 pub mod Programs
 pub mod ReportTexts
 pub mod LegalRuns
+pub mod ReadyRuns

@@ -10,14 +10,13 @@ use Rattle.rp_base.specs.declared.line.Line.{Line as Shown}
 use Rattle.rp_app.specs.Application.{Application}
 use Rattle.proto_data.specs.declared.message.Body.{Body}
 use Rattle.proto_model.specs.Lines.{Line, Release, Dropped, LostLine, Refused, Stranger, Send, Serial, Epoch, CellsLine, End, without_sends}
-use Rattle.proto_model.specs.World.{World, opened}
+use Rattle.proto_model.specs.World.{World, Setup, opened}
 use Rattle.proto_model.specs.WorldStep.{world_step, run_on}
 use Rattle.proto_model.specs.EndLines.{end_lines}
 use Rattle.rp_frame.specs.Spelling.{kind}
-use Rattle.rp_world.specs.declared.world.Setup.{Setup}
-use Rattle.rp_world.specs.AppWorld.{line_of, shown, stepped}
+use Rattle.run_history.specs.Shown.{line_of, shown, stepped}
 use Rattle.run_report.specs.Report.{NamesKind}
-use Rattle.rp_cli.specs.Reports.{line_written, lines_written, report_text, running_text, running_texts, unlinked}
+use Rattle.rp_cli.specs.Reports.{line_written, lines_written, report_text, running_text, running_texts}
 
 -- the text of the lines from this place on
 pub running_texts-drop : (frames : Bool) (lines : List Shown) (i : ℕ) (l : Shown) → i < length lines → l ≡ get_or lines i l → running_texts frames (drop i lines) ≡ running_text frames l ++ running_texts frames (drop (i + 1) lines)
@@ -67,9 +66,9 @@ shown-names ls = All-from_recursion NamesKind (shown ls) (named ls)
 abbrev pub rest_text : Bool → Application → World → List Event → List ℕ
 rest_text frames app w events = running_texts frames (shown (run_on app w events).1) ++ lines_written (shown (end_lines app.cell_count (run_on app w events).0))
 
-pub report_text-is : (frames : Bool) (app : Application) (setup : Setup) (events : List Event) → report_text frames app setup events ≡ rest_text frames app (opened app.cell_count (unlinked setup)) events
+pub report_text-is : (frames : Bool) (app : Application) (setup : Setup) (events : List Event) → report_text frames app setup events ≡ rest_text frames app (opened app.cell_count setup) events
 report_text-is frames app setup events =
-    let ran = run_on app (opened app.cell_count (unlinked setup)) events in
+    let ran = run_on app (opened app.cell_count setup) events in
     let lines = if frames then ran.1 else without_sends ran.1 in
     let ends = end_lines app.cell_count ran.0 in
     ap lines_written (map-append line_of lines ends)

@@ -5,10 +5,10 @@ use Rattle.rp_base.specs.declared.line.Line.{Line}
 use Rattle.rp_app.specs.Application.{Application, counting}
 use Rattle.proto_data.specs.declared.terms.Mode.{Mode}
 use Rattle.proto_safety.specs.LegalLines.{LegalLines}
-use Rattle.proto_model.specs.World.{Setup as WorldSetup}
+use Rattle.loss_laws.specs.BoundedLines.{BoundedLines}
+use Rattle.proto_model.specs.World.{Setup}
 use Rattle.proto_model.specs.EndLines.{report}
-use Rattle.rp_world.specs.declared.world.Setup.{Setup}
-use Rattle.rp_world.specs.AppWorld.{shown}
+use Rattle.run_history.specs.Shown.{shown}
 use Rattle.sched_lang.specs.declared.schedule.Schedule.{Schedule}
 use Rattle.run_report.specs.Report.{line_text, lines_text}
 
@@ -17,18 +17,15 @@ abbrev pub mode_of : Option ℕ → Mode
 mode_of None = Mode.Strict
 mode_of (Some bound) = Mode.Snapshot bound
 
--- the nodes and terms that a schedule asks for
+-- the nodes and terms that a schedule asks for, without a link
 abbrev pub setup_of : Schedule → Setup
 setup_of s =
     record {
       switches = s.switches;
       replicas = s.chain;
       terms = record { t_switch = s.t_switch; t_store = s.t_store; ratio = s.ratio; mode = mode_of s.snapshot };
+      linked = false;
     }
-
--- the same without a link
-abbrev pub unlinked : Setup → WorldSetup
-unlinked setup = record { switches = setup.switches; replicas = setup.replicas; terms = setup.terms; linked = false }
 
 -- what is written of a line, and of lines
 abbrev pub line_written : Line → List ℕ
@@ -39,7 +36,7 @@ lines_written ls = flat_map line_written ls
 
 -- the text of the report of a run, with the frames that it sends or without them
 abbrev pub report_text : Bool → Application → Setup → List Event → List ℕ
-report_text frames app setup events = lines_written (shown (report frames app (unlinked setup) events))
+report_text frames app setup events = lines_written (shown (report frames app setup events))
 
 -- the report of the run of a schedule, in which packets are counted
 abbrev pub counting_report : Bool → Schedule → List ℕ
@@ -61,3 +58,10 @@ pub record IsLegalText (events : List Event) (text : List ℕ) : Type 0 where
   pub lines : List Line
   pub says : text ≡ lines_text lines
   pub legal : LegalLines counting events lines
+
+-- A text of lines that lose boundedly over these events: each output is what one switch that never fails gives along what the flow's
+-- earlier epochs keep and the marks before it, and the cells are those along what is kept.
+pub record IsBoundedText (events : List Event) (text : List ℕ) : Type 0 where
+  pub lines : List Line
+  pub says : text ≡ lines_text lines
+  pub bounded : BoundedLines counting events lines

@@ -2,14 +2,13 @@
 use Rattle.std.specs.Prelude.{◌≡◌, ℕ, Bool, true, false, List, [], ◌∷◌, if◌then◌else◌, Option, Some, None, option_map, Result, Ok, Err, IfOk, codes}
 use Rattle.std.specs.Str.{bytes_eq}
 use Rattle.rp_base.specs.Outside.{Grows, GrowsByFront}
-use Rattle.rp_base.specs.declared.event.Event.{Event}
 use Rattle.rp_base.specs.declared.refused.Refused.{Refused}
 use Rattle.p4_checked.specs.Reading.{bad_text}
 use Rattle.sched_lang.specs.declared.schedule.Schedule.{Schedule}
-use Rattle.sched_lang.specs.Reading.{Fault, narrow_schedule_of}
+use Rattle.sched_lang.specs.Reading.{Fault, schedule_of}
 use Rattle.rp_cli.specs.declared.status.Status.{Status}
 use Rattle.rp_cli.specs.declared.status.Status.TheVariants as status
-use Rattle.rp_cli.specs.Reports.{counting_report, IsLegalText}
+use Rattle.rp_cli.specs.Reports.{counting_report, IsBoundedText, IsLegalText}
 
 -- ---- the command
 
@@ -48,7 +47,7 @@ read_or_refused (Err fault) = Err (status.ScheduleRefused fault.0 fault.1)
 -- the schedule of a content, if it is there
 abbrev pub schedule_in : Option (List ℕ) → Result Schedule Status
 schedule_in None = Err status.InputFault
-schedule_in (Some text) = read_or_refused (narrow_schedule_of text)
+schedule_in (Some text) = read_or_refused (schedule_of text)
 
 -- the answer of a program that is refused so or not at all, and of a schedule's content: that must be there, and programs don't run yet
 abbrev pub judged : Option Refused → Option (List ℕ) → Status
@@ -151,24 +150,32 @@ abbrev pub IsOkWith : (Schedule → Type 0) → Result Schedule Status → Type 
 IsOkWith P (Ok s) = P s
 IsOkWith P (Err answer) = ⊥
 
--- what the sink tells grew by a text that is legal over these events
-abbrev pub WritesLegal : List Event → Option (List ℕ) → Option (List ℕ) → Type 0
-WritesLegal events old new = (text : List ℕ) × (IsLegalText events text × Grows old new text)
+-- A schedule in strict mode has a text that is legal over its events, and this holds of it.
+abbrev pub HasLegal : (List ℕ → Type 0) → Schedule → Type 0
+HasLegal P s = s.snapshot ≡ None → (text : List ℕ) × (IsLegalText s.events text × P text)
 
--- it grew by a front of such a text
-abbrev pub BeginsLegal : List Event → Option (List ℕ) → Option (List ℕ) → Type 0
-BeginsLegal events old new = (text : List ℕ) × (IsLegalText events text × GrowsByFront old new text)
+-- A schedule in snapshot mode has a text that loses boundedly over its events, and this holds of it.
+abbrev pub HasBounded : (List ℕ → Type 0) → Schedule → Type 0
+HasBounded P s = (bound : ℕ) → s.snapshot ≡ Some bound → (text : List ℕ) × (IsBoundedText s.events text × P text)
 
--- After these answers what was written is legal over the events of the schedule that was loaded, or a front of what is. Memory may
+-- After these answers the schedule that was loaded has such a text, and what was written is that text or a front of it. Memory may
 -- run out before a schedule is loaded.
+abbrev pub IsWrittenAfter : ((List ℕ → Type 0) → Schedule → Type 0) → Status → Result Schedule Status → Option (List ℕ) → Option (List ℕ) → Type 0
+IsWrittenAfter Has status.Done asked old new = IsOkWith (Has (Grows old new)) asked
+IsWrittenAfter Has status.Usage asked old new = Unit {0}
+IsWrittenAfter Has (status.ProgramRefused at why) asked old new = Unit {0}
+IsWrittenAfter Has (status.ScheduleRefused line why) asked old new = Unit {0}
+IsWrittenAfter Has status.InputFault asked old new = Unit {0}
+IsWrittenAfter Has status.OutputFault asked old new = IsOkWith (Has (GrowsByFront old new)) asked
+IsWrittenAfter Has status.NoMemory asked old new = IfOk asked (Has (GrowsByFront old new))
+
+-- what was written of a run in strict mode is legal
 abbrev pub IsLegalAfter : Status → Result Schedule Status → Option (List ℕ) → Option (List ℕ) → Type 0
-IsLegalAfter status.Done asked old new = IsOkWith (λ (s : Schedule). WritesLegal s.events old new) asked
-IsLegalAfter status.Usage asked old new = Unit {0}
-IsLegalAfter (status.ProgramRefused at why) asked old new = Unit {0}
-IsLegalAfter (status.ScheduleRefused line why) asked old new = Unit {0}
-IsLegalAfter status.InputFault asked old new = Unit {0}
-IsLegalAfter status.OutputFault asked old new = IsOkWith (λ (s : Schedule). BeginsLegal s.events old new) asked
-IsLegalAfter status.NoMemory asked old new = IfOk asked (λ (s : Schedule). BeginsLegal s.events old new)
+IsLegalAfter answer asked old new = IsWrittenAfter HasLegal answer asked old new
+
+-- what was written of a run in snapshot mode loses boundedly
+abbrev pub IsBoundedAfter : Status → Result Schedule Status → Option (List ℕ) → Option (List ℕ) → Type 0
+IsBoundedAfter answer asked old new = IsWrittenAfter HasBounded answer asked old new
 
 -- the answers in place of a schedule
 abbrev pub IsNoSchedule : Status → Type 0

@@ -3,7 +3,7 @@
 
 ghost use Rattle.std.specs.Prelude.{◌≡◌, IfSome, drop};
 ghost use Rattle.rp_base.specs.Outside.{Rose};
-ghost use Rattle.rp_cli.specs.Top.{form_of, asked, outcome, Answers, IsAnswerTo, IsLegalAfter};
+ghost use Rattle.rp_cli.specs.Top.{form_of, asked, outcome, Answers, IsAnswerTo, IsBoundedAfter, IsLegalAfter};
 
 mod running;
 mod status;
@@ -36,6 +36,8 @@ fn run<A: CommandLine, I: Inputs, K: Sink, L: Link, C: Clock>(
         Answers result (outcome (drop 1 words) contents) (K.written out.old) (K.written out.new))) }
     ensures legal { IfSome (A.words line.now) (λ words. IfSome (I.contents inputs.old) (λ contents.
         IsLegalAfter result (asked (drop 1 words) contents) (K.written out.old) (K.written out.new))) }
+    ensures bounded { IfSome (A.words line.now) (λ words. IfSome (I.contents inputs.old) (λ contents.
+        IsBoundedAfter result (asked (drop 1 words) contents) (K.written out.old) (K.written out.new))) }
 
     ensures input { result ≡ Status.InputFault → Rose (I.faults inputs.old) (I.faults inputs.new) }
     ensures output { result ≡ Status.OutputFault → Rose (K.faults out.old) (K.faults out.new) }

@@ -1,7 +1,7 @@
 //! A run, whose lines are written as they come.
 ghost use Rattle.std.specs.Prelude.{◌≡◌, ◌≤◌, All, length, OnOk, OnErr};
 ghost use Rattle.rp_base.specs.Outside.{Grows, GrowsByFront, HasCause};
-ghost use Rattle.rp_world.specs.AppWorld.{IsSetup, IsEvent};
+ghost use Rattle.rp_world.specs.AppWorld.{CellsFit, IsSetup, IsEventOf};
 ghost use Rattle.run_report.specs.Report.{NamesKind};
 ghost use Rattle.rp_cli.specs.Reports.{report_text, running_text, running_texts};
 
@@ -77,7 +77,8 @@ fn write_lines<K: Sink>(
 /// Runs an application over events, and writes the report: the lines of each event before the next one is taken. The frames
 /// that are sent are shown where `frames` says so.
 ///
-/// The setup is one that is built, the application has at most 32 cells, and each of at most 20,000 events is one that is built.
+/// The setup is one that a world takes, the application has as many cells as its mode allows, and each of at most 20,000 events is
+/// one that a run of this setup may have.
 ///
 /// # Errors
 /// `Failed` only where the sink's count of faults rose in this call, `NoMemory`; a front of the report was written.
@@ -90,8 +91,8 @@ pub fn write_report<A: App, K: Sink>(
     out: &mut K,
 ) -> Result<(), Stop>
     requires setup { IsSetup setup.now }
-    requires cells { (A.meaning app).cell_count ≤ 32 }
-    requires events { All IsEvent events.now }
+    requires cells { CellsFit setup.now.terms.mode (A.meaning app).cell_count }
+    requires events { All (IsEventOf setup.now) events.now }
     requires count { length events.now ≤ 20000 }
     ensures ok { OnOk result (Grows (K.written out.old) (K.written out.new) (report_text frames (A.meaning app) setup.now events.now)) }
     ensures err { OnErr result (GrowsByFront (K.written out.old) (K.written out.new) (report_text frames (A.meaning app) setup.now events.now)) }

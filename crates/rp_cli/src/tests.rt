@@ -212,7 +212,7 @@ fn refusals_write_nothing(rt: HostRuntime) -> Result<(), Fail> {
             Status::Usage,
         ),
         (b"run @count x", EQUAL_TERMS, b"", terms),
-        (b"run @count x", HEADER, b"alarm s0\n", not_yet),
+        (b"run @count x", HEADER, b"pump\n", not_yet),
         (b"run @count x", b"", b"", form),
     ];
     for (line, first, second, wanted) in rows {
@@ -222,6 +222,37 @@ fn refusals_write_nothing(rt: HostRuntime) -> Result<(), Fail> {
         assert_eq!(rt; text.len(), 0);
     }
     Ok(())
+}
+
+// What the words of a line answer and write where this call of the sink fails, and how many contents were asked for.
+fn faultily(
+    alloc: Global,
+    line: &[u8],
+    program: &[&[u8]],
+    call: u64,
+) -> Result<(Status, Vec<u8>, u64), Fail> {
+    let words = words(alloc, line)?;
+    let mut inputs = MemInputs {
+        contents: contents(
+            alloc,
+            bytes(alloc, program)?,
+            bytes(alloc, &[HEADER, ONE_PACKET])?,
+        )?,
+        failing: Vec::new(alloc),
+        calls: 0,
+        faults: 0,
+    };
+    let mut out = MemSink {
+        kept: Kept::with_room(alloc, 10000)?,
+        most: 10000,
+        failing: [call].to_vec(alloc)?,
+        calls: 0,
+        faults: 0,
+    };
+    let mut link = link(alloc);
+    let mut clock = clock(alloc)?;
+    let status = rp_main(alloc, &words, &mut inputs, &mut out, &mut link, &mut clock);
+    Ok((status, out.kept.bytes, inputs.calls))
 }
 
 // A program's refusal comes before its schedule is loaded: there is none of this name.
@@ -238,23 +269,11 @@ fn programs_are_refused_first(rt: HostRuntime) -> Result<(), Fail> {
         ([DECLARED, COUNTS, DEPARSED], b"rp: input fault\n"),
     ];
     for (program, wanted) in rows {
-        let words = words(alloc, b"run app nofile")?;
-        let mut inputs = MemInputs {
-            contents: contents(alloc, bytes(alloc, &program)?, Bytes::new(alloc))?,
-            failing: Vec::new(alloc),
-            calls: 0,
-            faults: 0,
-        };
-        let mut out = SureSink {
-            kept: Kept::with_room(alloc, 10000)?,
-        };
-        let mut link = link(alloc);
-        let mut clock = clock(alloc)?;
-        let status = rp_main(alloc, &words, &mut inputs, &mut out, &mut link, &mut clock);
+        let (status, text, _) = faultily(alloc, b"run app nofile", &program, 9)?;
         let mut told = Vec::new(alloc);
         tell(status, &mut told)?;
         assert_eq!(rt; told.as_slice(), wanted);
-        assert_eq!(rt; out.kept.bytes.len(), 0);
+        assert_eq!(rt; text.len(), 0);
     }
     Ok(())
 }
@@ -280,30 +299,9 @@ fn faults_end_the_run(rt: HostRuntime) -> Result<(), Fail> {
         (b"run app x", 9, Status::Usage, b"", 2),
     ];
     for (line, call, wanted, text, asked) in rows {
-        let words = words(alloc, line)?;
-        let mut inputs = MemInputs {
-            contents: contents(
-                alloc,
-                bytes(alloc, &[DECLARED, COUNTS, DEPARSED])?,
-                bytes(alloc, &[HEADER, ONE_PACKET])?,
-            )?,
-            failing: Vec::new(alloc),
-            calls: 0,
-            faults: 0,
-        };
-        let mut out = MemSink {
-            kept: Kept::with_room(alloc, 10000)?,
-            most: 10000,
-            failing: [call].to_vec(alloc)?,
-            calls: 0,
-            faults: 0,
-        };
-        let mut link = link(alloc);
-        let mut clock = clock(alloc)?;
-        let status = rp_main(alloc, &words, &mut inputs, &mut out, &mut link, &mut clock);
-        assert_eq!(rt; status, wanted);
-        assert_eq!(rt; out.kept.bytes.as_slice(), text);
-        assert_eq!(rt; inputs.calls, asked);
+        let (status, written, calls) = faultily(alloc, line, &[DECLARED, COUNTS, DEPARSED], call)?;
+        assert_eq!(rt; (status, calls), (wanted, asked));
+        assert_eq!(rt; written.as_slice(), text);
     }
     Ok(())
 }
@@ -330,7 +328,6 @@ fn a_schedule_has_a_limit(rt: HostRuntime) -> Result<(), Fail> {
     let mut told = Vec::new(alloc);
     tell(status, &mut told)?;
     assert_eq!(rt; told.as_slice(), b"rp: schedule 0 TooLong\n".as_slice());
-    assert_eq!(rt; status.number(), 3);
-    assert_eq!(rt; out.kept.bytes.len(), 0);
+    assert_eq!(rt; (status.number(), out.kept.bytes.len()), (3, 0));
     Ok(())
 }

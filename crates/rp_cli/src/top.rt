@@ -2,12 +2,12 @@
 ghost use Rattle.std.specs.Prelude.{◌≡◌, ◌≤◌, [], None, Some, Err, IfSome, IfOk, IfErr, IsOk, IsErrOf, drop, option_map};
 ghost use Rattle.rp_base.specs.Outside.{Grows, Rose};
 ghost use Rattle.rp_world.specs.AppWorld.{IsSetup};
-ghost use Rattle.sched_lang.specs.Reading.{narrow_schedule_of};
-ghost use Rattle.sched_lang.specs.Ready.{IsNarrow};
+ghost use Rattle.sched_lang.specs.Reading.{schedule_of};
+ghost use Rattle.sched_lang.specs.Ready.{IsReady};
 ghost use Rattle.rp_cli.specs.Reports.{setup_of as setup_for};
 ghost use Rattle.rp_cli.specs.Seen.{seen};
 ghost use Rattle.p4_checked.specs.Reading.{bad_text};
-ghost use Rattle.rp_cli.specs.Top.{form_of, frames_by, asked, outcome, read_or_refused, schedule_in, program_in, judged, Accepts, Answers, Loads, IsLegalAfter, IsAnswerTo, IsBeforeRun, IsNoSchedule, IsNoProgram, IsDoneOrNoMemory};
+ghost use Rattle.rp_cli.specs.Top.{form_of, frames_by, asked, outcome, read_or_refused, schedule_in, program_in, judged, Accepts, Answers, Loads, IsBoundedAfter, IsLegalAfter, IsAnswerTo, IsBeforeRun, IsNoSchedule, IsNoProgram, IsDoneOrNoMemory};
 
 use crate::running::{Stop, write_report};
 use crate::status::Status;
@@ -113,7 +113,7 @@ fn unbuilt<I: Inputs>(alloc: Global, program: &[u8], schedule: &[u8], inputs: &m
 // Loads a schedule and reads it.
 fn loaded<I: Inputs>(alloc: Global, name: &[u8], inputs: &mut I) -> Result<Schedule, Status>
     ensures told { IfSome (I.contents inputs.old) (λ contents. Loads result (schedule_in (contents name.now))) }
-    ensures narrow { IfOk result IsNarrow }
+    ensures ready { IfOk result IsReady }
     ensures ends { IfErr result IsNoSchedule }
     ensures contents { I.contents inputs.new ≡ I.contents inputs.old }
     ensures count { I.faults inputs.old ≤ I.faults inputs.new }
@@ -129,21 +129,21 @@ fn loaded<I: Inputs>(alloc: Global, name: &[u8], inputs: &mut I) -> Result<Sched
 
 // Reads a schedule.
 fn read(alloc: Global, text: &Bytes) -> Result<Schedule, Status>
-    ensures exact { Loads result (read_or_refused (narrow_schedule_of text.now)) }
-    ensures narrow { IfOk result IsNarrow }
+    ensures exact { Loads result (read_or_refused (schedule_of text.now)) }
+    ensures ready { IfOk result IsReady }
     ensures ends { IfErr result IsNoSchedule }
     ensures input { IsErrOf result Status.InputFault → ⊥ }
 {
-    match sched_lang::read_narrow(alloc, text.as_slice()) {
+    match sched_lang::read(alloc, text.as_slice()) {
         Ok(schedule) => Ok(schedule),
         Err(SchedEnd::Refused { line, why }) => Err(Status::ScheduleRefused { line, why }),
         Err(SchedEnd::NoMemory) => Err(Status::NoMemory),
     }
 }
 
-// The nodes and terms of a schedule's run.
+// The nodes and terms of a schedule's run, without a link.
 fn setup_of(schedule: &Schedule) -> Setup
-    requires { IsNarrow schedule.now }
+    requires { IsReady schedule.now }
     ensures value { result ≡ setup_for schedule.now }
     ensures setup { IsSetup result }
 {
@@ -159,6 +159,7 @@ fn setup_of(schedule: &Schedule) -> Setup
                 Some(bound) => Mode::Snapshot(bound),
             },
         },
+        linked: false,
     }
 }
 
@@ -176,9 +177,12 @@ pub fn rp_main<I: Inputs, K: Sink, L: Link, C: Clock>(
     // where the inputs tell their contents
     ensures told { IfSome (I.contents inputs.old) (λ contents.
         Answers result (outcome words.now contents) (K.written out.old) (K.written out.new)) }
-    // what was written, whole or in part, is what one switch that never fails could have shown of the schedule's events
+    // in strict mode, what was written, whole or in part, is what one switch that never fails could have shown of the schedule's events
     ensures legal { IfSome (I.contents inputs.old) (λ contents.
         IsLegalAfter result (asked words.now contents) (K.written out.old) (K.written out.new)) }
+    // in snapshot mode, it loses boundedly
+    ensures bounded { IfSome (I.contents inputs.old) (λ contents.
+        IsBoundedAfter result (asked words.now contents) (K.written out.old) (K.written out.new)) }
     ensures complete { IfSome (I.contents inputs.old) (λ contents. IsOk (outcome words.now contents) →
         ¬ Rose (I.faults inputs.old) (I.faults inputs.new) → ¬ Rose (K.faults out.old) (K.faults out.new) → IsDoneOrNoMemory result) }
 

@@ -1,8 +1,6 @@
-ghost use Rattle.std.specs.Prelude.{◌≡◌, IfOk};
-
-use proto_model::{Mode, Terms};
+use proto_data::{Mode, Terms};
 use rp_app::CountApp;
-use rp_base::{Bytes, Event, NoMemory};
+use rp_base::{Bytes, Event, Line, Lines, NoMemory, Node};
 use rp_world::{Setup, World};
 use std::alloc::Global;
 use std::test::Fail;
@@ -12,56 +10,48 @@ const ASK: [u8; 27] = [
     0x52, 0x50, 1, 1, 0, 16, 0, 0, 0, 1, 0, 0, 0, 1, 1, 0x61, 1, 0, 0, 0, 1, 0, 7, 0, 2, 0x61, 0x21,
 ];
 
-// A world before its first event.
-fn opened(alloc: Global) -> Result<World<CountApp>, NoMemory>
-    ensures { IfOk result (λ world. world.world.event ≡ 0) }
-{
-    World::open(
-        alloc,
-        CountApp { alloc },
-        &Setup {
-            switches: 1,
-            replicas: 1,
-            terms: Terms {
-                t_switch: 1000,
-                t_store: 1100,
-                ratio: 50,
-                mode: Mode::Strict,
-            },
-        },
-    )
-}
-
-// How many lines the first packet writes.
-fn fed(alloc: Global, world: &mut World<CountApp>) -> Result<u64, NoMemory>
-    requires { world.old.world.event ≡ 0 }
-{
+// The lines of the first packet, and the lines at the end.
+fn fed(alloc: Global) -> Result<(Lines, Lines), NoMemory> {
     let mut bytes = Bytes::new(alloc);
     bytes.append(&[0x61, 0x21])?;
-    let lines = world.on(&Event::Feed { port: 7, bytes })?;
-    Ok(lines.len())
+    let setup = Setup {
+        switches: 1,
+        replicas: 1,
+        terms: Terms {
+            t_switch: 1000,
+            t_store: 1100,
+            ratio: 50,
+            mode: Mode::Strict,
+        },
+        linked: false,
+    };
+    let mut world = World::open(alloc, CountApp { alloc }, &setup)?;
+    let sent = world.on(&Event::Feed { port: 7, bytes })?;
+    Ok((sent, world.closing()?))
 }
 
-// Whether the Ask is the one frame.
-fn has_asked(world: &World<CountApp>) -> bool {
-    world.frames() == 1 && world.frame(0) == ASK.as_slice()
+// Whether the one line is that of the Ask.
+fn has_asked(lines: &Lines) -> bool {
+    match lines.at(0) {
+        Some(
+            Line::Send {
+                event: 1,
+                frame: 0,
+                from: Node::Switch(0),
+                to: Node::Replica(0),
+                kind: 1,
+                bytes,
+            },
+        ) => lines.len() == 1 && bytes.as_slice() == ASK.as_slice(),
+        _ => false,
+    }
 }
 
-// How many lines the report ends with.
-fn closed(world: &World<CountApp>) -> Result<u64, NoMemory> {
-    let lines = world.closing()?;
-    Ok(lines.len())
-}
-
-// A packet is fed, and the one frame that it sends is an Ask with it; the line at the end is `end`.
+// A packet is fed, and the one line that it writes is that of an Ask with it; the line at the end is `end`.
 #[test]
 fn one_event(rt: HostRuntime) -> Result<(), Fail> {
-    let alloc = rt.alloc();
-    let mut world = opened(alloc)?;
-    assert_eq!(rt; world.frames(), 0);
-    let sent = fed(alloc, &mut world)?;
-    let asked = has_asked(&world);
-    let closing = closed(&world)?;
-    assert_eq!(rt; (sent, asked, closing), (1, true, 1));
+    let (sent, closing) = fed(rt.alloc())?;
+    let ends = matches!(closing.at(0), Some(Line::End));
+    assert_eq!(rt; (has_asked(&sent), closing.len(), ends), (true, 1, true));
     Ok(())
 }

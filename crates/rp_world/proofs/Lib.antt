@@ -1,13 +1,4 @@
-pub mod Worlds
-pub mod SwitchSound
-pub mod ShownLines
-pub mod StoreSound
-pub mod RunSound
-mod FrameLengths
-mod SentSizes
-pub mod RunSteps
-mod NotesKept
-mod FlowSerials
-mod ClosingShown
-mod NoteSteps
-mod Sends
+pub mod FromSetup
+pub mod Opening
+pub mod Calls
+pub mod Ending

@@ -1,21 +1,17 @@
--- A world with its application as callers see it, and what its calls do.
-use Rattle.std.specs.Prelude.{ℕ, ◌≤◌, ◌≡◌, Bool, false, List, length}
+-- A world with its application as callers see it, and the conditions of its calls.
+use Rattle.std.specs.Prelude.{ℕ, ◌≤◌, ◌+◌, ◌≡◌, Bool, All, length}
 use Rattle.rp_base.specs.declared.event.Event.{Event}
-use Rattle.rp_base.specs.declared.line.Line.{Line as Shown}
 use Rattle.rp_base.specs.Clocks.{TermsHold}
-use Rattle.rp_app.specs.Application.{Application}
 use Rattle.proto_data.specs.declared.terms.Terms.{Terms}
 use Rattle.proto_data.specs.declared.terms.Mode.{Mode}
-use Rattle.proto_model.specs.Lines.{Line, printed_line, printed}
-use Rattle.proto_model.specs.World.{World, opened}
-use Rattle.proto_model.specs.WorldStep.{world_step}
-use Rattle.rp_frame.specs.Spelling.{kind, spelling}
-use Rattle.rp_world.specs.declared.world.Setup.{Setup}
+use Rattle.proto_model.specs.World.{World, Setup}
 
--- the world of an application, and whether memory ran out
+-- the world of an application, what it began with, how many events and handed frames it took, and whether memory ran out
 pub record AppWorld (A : Type 0) : Type 0 where
   pub app : A
+  pub setup : Setup
   pub world : World
+  pub calls : ℕ
   pub failed : Bool
 
 -- terms within their limits, by which a lease has ended at its switch before the store gives the flow to another
@@ -27,31 +23,22 @@ pub record IsTerms (terms : Terms) : Type 0 where
   pub ratio_fits : terms.ratio ≤ 1000
   pub hold : TermsHold terms.t_switch terms.t_store terms.ratio
 
--- what a run begins with: one switch and one replica in strict mode
+-- what a run begins with: 1 to 8 switches, 1 to 5 replicas, and terms that hold
 pub record IsSetup (setup : Setup) : Type 0 where
-  pub one_switch : setup.switches ≡ 1
-  pub one_replica : setup.replicas ≡ 1
-  pub strict : setup.terms.mode ≡ Mode.Strict
+  pub some_switch : 1 ≤ setup.switches
+  pub switches_fit : setup.switches ≤ 8
+  pub some_replica : 1 ≤ setup.replicas
+  pub replicas_fit : setup.replicas ≤ 5
   pub terms : IsTerms setup.terms
 
--- the events that a run may have: a packet of at most 1,500 bytes, and the next frame
-abbrev pub IsEvent : Event → Type 0
-IsEvent (Event.Feed port bytes) = length bytes ≤ 1500
-IsEvent Event.Next = Unit {0}
-IsEvent _ = ⊥
+-- as many cells as a mode allows a flow
+abbrev pub CellsFit : Mode → ℕ → Type 0
+CellsFit Mode.Strict cells = cells ≤ 32
+CellsFit (Mode.Snapshot bound) cells = cells ≤ 256
 
--- a line as the report shows it, each frame by its one spelling
-abbrev pub line_of : Line → Shown
-line_of l = printed_line kind spelling l
-
-abbrev pub shown : List Line → List Shown
-shown lines = printed kind spelling lines
-
--- the world before its first event, of an application with so many cells
-abbrev pub opened_as : ℕ → Setup → World
-opened_as cells setup =
-    opened cells (record { switches = setup.switches; replicas = setup.replicas; terms = setup.terms; linked = false })
-
--- the world after an event, with the lines that it writes
-abbrev pub stepped : Application → World → Event → World × List Shown
-stepped app w e = ((world_step app w e).0, shown (world_step app w e).1)
+-- The events that a run may have: a packet has at most 1,500 bytes, and `time` has one advance of at most 1,000,000,000 for each node.
+abbrev pub IsEventOf : Setup → Event → Type 0
+IsEventOf setup (Event.Feed port bytes) = length bytes ≤ 1500
+IsEventOf setup (Event.FeedAt n port bytes) = length bytes ≤ 1500
+IsEventOf setup (Event.Time by) = (length by ≡ setup.switches + setup.replicas) × All (λ d. d ≤ 1000000000) by
+IsEventOf setup e = Unit {0}

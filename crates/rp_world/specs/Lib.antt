@@ -1,4 +1,2 @@
-pub mod Frames
 pub mod AppWorld
-pub mod OneEach
-pub mod Endings
+pub mod Begun

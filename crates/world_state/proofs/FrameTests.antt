@@ -6,12 +6,7 @@ use Rattle.proto_data.specs.declared.message.Msg.{Msg}
 use Rattle.proto_model.specs.World.{World}
 use Rattle.proto_model.specs.WorldStep.{next_from, is_next, runs_now}
 use Rattle.world_state.specs.Passing.{is_passed}
-use Rattle.world_state.proofs.PassedFrames.{skipped, next_at, next_past}
-
-pub from_first : (w : World) (k : ℕ) (ms : List Msg) → ((j : ℕ) → j < k → is_passed w.passed j ≡ true) → next_from w 0 ms ≡ next_from w k (drop k ms)
-from_first w k ms h =
-    let zero : 0 + k ≡ k = omega arith in
-    skipped w k 0 ms (λ j le less. h j (omega (arith, less))) ∙ ap (λ n. next_from w n (drop k ms)) zero
+use Rattle.world_state.proofs.PassedFrames.{next_at, next_past}
 
 -- whether the frame at a place is taken
 taken_is : (w : World) (i : ℕ) (ms : List Msg) (m : Msg) (to : Node) (over runs : Bool) → slice_get ms i ≡ Some m → option_map (λ (m : Msg). m.to) (slice_get ms i) ≡ Some to →

@@ -1,9 +1,10 @@
 mod Taking
 mod FrameLengths
-mod ShownLines
 mod Sends
 pub mod NodeLists
 pub mod PassedFrames
+pub mod WaitingKept
+pub mod Settled
 pub mod WorldGoes
 pub mod RunGoes
 pub mod RunAfter
@@ -13,3 +14,6 @@ pub mod FrameTests
 pub mod Announced
 pub mod Told
 pub mod Opened
+pub mod LastRunning
+pub mod HandAfter
+pub mod FoundFrames

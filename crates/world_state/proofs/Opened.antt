@@ -15,7 +15,9 @@ use Rattle.world_state.specs.declared.nodes.SwitchNode.{SwitchNode as SwitchSeat
 use Rattle.world_state.specs.declared.nodes.ReplicaNode.{ReplicaNode as ReplicaSeat}
 use Rattle.world_state.specs.declared.state.WorldState.{WorldState}
 use Rattle.world_state.specs.Nodes.{switch_nodes, replica_nodes, begun_switch, begun_replica, IsSwitchSeat, IsReplicaSeat}
+use Rattle.world_state.specs.Waiting.{AreCursors}
 use Rattle.world_state.specs.WorldStates.{world_of, IsRun}
+use Rattle.world_state.proofs.WaitingKept.{first_cursors}
 
 module _ (cells : ℕ) (setup : Setup) where
   abbrev pub first_switch : ℕ → SwitchSeat
@@ -44,9 +46,9 @@ module _ (cells : ℕ) (setup : Setup) where
   opened_as_kept_too = replicas_from 0 setup.replicas
 
   pub opened_runs : (s : WorldState) → setup.switches ≤ 8 → 1 ≤ setup.replicas → setup.replicas ≤ 5 → cells ≤ 256 → (setup.terms.mode ≡ Mode.Strict → cells ≤ 32) → setup.terms.t_switch ≤ 1000000 → setup.terms.ratio ≤ 1000 →
-      world_of s ≡ opened cells setup → s.calls ≡ 0 → s.cells ≡ cells → s.router.believed ≡ replicate setup.switches true → s.switches ≡ map first_switch (below setup.switches) → AllByRecursion (IsReplicaSeat 0) s.replicas →
+      world_of s ≡ opened cells setup → s.calls ≡ 0 → s.cells ≡ cells → s.router.believed ≡ replicate setup.switches true → s.cursors ≡ replicate 13 0 → s.switches ≡ map first_switch (below setup.switches) → AllByRecursion (IsReplicaSeat 0) s.replicas →
       (app : Application) → app.cell_count ≡ cells → IsRun app s
-  opened_runs s switches_fit some_replica replicas_fit few few_strict term ratio is calls_are cells_are routes switches_are replicas app count =
+  opened_runs s switches_fit some_replica replicas_fit few few_strict term ratio is calls_are cells_are routes cursors_are switches_are replicas app count =
       let terms_are : s.terms ≡ setup.terms = ap (λ (w : World). w.terms) is in
       let long : length s.router.believed ≡ setup.switches = ap length routes ∙ length-replicate setup.switches true in
       let many : length s.switches ≡ setup.switches = ap length switches_are ∙ length_map first_switch (below setup.switches) ∙ length-range_with_len 0 setup.switches in
@@ -62,4 +64,5 @@ module _ (cells : ℕ) (setup : Setup) where
         switches = subst (λ n. AllByRecursion (IsSwitchSeat s.cells n) s.switches) (sym calls_are) (subst (λ n. AllByRecursion (IsSwitchSeat n 0) s.switches) (sym cells_are) seats);
         replicas = subst (λ n. AllByRecursion (IsReplicaSeat n) s.replicas) (sym calls_are) replicas;
         sized = subst (λ n. SizedAt (n + 1) app (world_of s)) (sym calls_are) (subst (SizedAt 1 app) (ap (λ n. opened n setup) count ∙ sym is) sized);
+        waiting = subst (AreCursors s.frames s.passed) (sym cursors_are) (first_cursors s.frames s.passed);
       }

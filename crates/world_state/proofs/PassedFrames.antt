@@ -32,7 +32,7 @@ flag_on flags n i less = by (n == i) refl
     by true is = let same : n ≡ i = eqb-true n i is in ap (λ k. flagged (set flags n true) k) (sym same) ∙ on_here flags n less
     by false is = let other : n ≢ i = eqb-false n i is in ap flag_at (set_other flags n i true (λ e. other (sym e)))
 
-or_true : (b : Bool) → (b || true) ≡ true
+pub or_true : (b : Bool) → (b || true) ≡ true
 or_true true = refl
 or_true false = refl
 
@@ -41,22 +41,10 @@ pub passed_more : (order : List ℕ) (flags : List Bool) (n i : ℕ) → n < len
 passed_more order flags n i less is =
     flag_on flags n i less ∙ ap (λ b. (n == i) || b) is ∙ ap (λ (ps : List ℕ). is_passed ps i) (sym (reverse-append order (n ∷ [])))
 
-pub below_stays : (flags : List Bool) (n i : ℕ) → n < length flags → flagged flags i ≡ true → flagged (set flags n true) i ≡ true
-below_stays flags n i less is = flag_on flags n i less ∙ ap (λ b. (n == i) || b) is ∙ or_true (n == i)
-
 pub flag_there : (flags : List Bool) (i : ℕ) (b : Bool) → slice_get flags i ≡ Some b → flagged flags i ≡ b
 flag_there flags i b is = ap flag_at is
 
 -- ---- the next frame
-
--- frames that are passed over are skipped
-pub skipped : (w : World) (k i : ℕ) (ms : List Msg) → ((j : ℕ) → i ≤ j → j < i + k → is_passed w.passed j ≡ true) → next_from w i ms ≡ next_from w (i + k) (drop k ms)
-skipped w zero i ms h = let none : i + 0 ≡ i = omega arith in ap (λ n. next_from w n ms) (sym none)
-skipped w (suc k) i [] h = refl
-skipped w (suc k) i (m ∷ ms) h =
-    let over : is_passed w.passed i ≡ true = h i (omega arith) (omega arith) in
-    let same : i + 1 + k ≡ i + suc k = omega arith in
-    rw over (skipped w k (i + 1) ms (λ j le less. h j (omega (arith, le)) (omega (arith, less))) ∙ ap (λ n. next_from w n (drop k ms)) same)
 
 -- the frame at a place is taken, or the search goes on behind it
 pub next_at : (w : World) (i : ℕ) (ms : List Msg) (m : Msg) → slice_get ms i ≡ Some m → (j : ℕ) → next_from w j (drop i ms) ≡ (if is_next w j m then Some (j, m) else next_from w (j + 1) (drop (suc i) ms))

@@ -25,20 +25,22 @@ use Rattle.proto_safety.proofs.Inductions.Acts.{act_fits}
 use Rattle.proto_safety.proofs.Size.SizesFit.{msg_fits}
 use Rattle.proto_safety.proofs.Size.SizesUp.{msg_wider, msg_up}
 use Rattle.proto_safety.proofs.Size.WorldSizes.{event_sized_at}
+use Rattle.run_history.specs.Shown.{shown, shown_step, stepped}
 use Rattle.world_state.specs.declared.nodes.SwitchNode.{SwitchNode as SwitchSeat}
 use Rattle.world_state.specs.declared.nodes.ReplicaNode.{ReplicaNode as ReplicaSeat}
 use Rattle.world_state.specs.declared.state.WorldState.{WorldState}
 use Rattle.world_state.specs.declared.acts.Act.{Act as KeptAct}
 use Rattle.world_state.specs.Acts.{IsEventOf, meant}
-use Rattle.world_state.specs.Shown.{shown, stepped}
 use Rattle.world_state.specs.Frames.{IsSendable}
 use Rattle.world_state.specs.Nodes.{IsSwitchSeat, IsReplicaSeat, replica_node, switch_nodes}
 use Rattle.world_state.specs.Steps.{Step, goes, IsAble, CanDo}
 use Rattle.world_state.specs.Turns.{CanTakeSwitch, CanTakeReplica}
-use Rattle.world_state.specs.WorldStates.{world_of, shown_step, IsRun}
+use Rattle.world_state.specs.Waiting.{AreCursors}
+use Rattle.world_state.specs.WorldStates.{world_of, IsRun}
 use Rattle.world_state.proofs.FrameLengths.{spelling_long}
 use Rattle.world_state.proofs.NodeLists.{length_switches}
 use Rattle.world_state.proofs.RunGoes.{Holds, FewAdvances, goes_hold}
+use Rattle.world_state.proofs.WaitingKept.{goes_waits}
 use Rattle.world_state.proofs.WorldGoes.{seen, goes_seen}
 
 -- the world that counts one more event
@@ -127,6 +129,48 @@ frames_sendable app w b small short h =
     sendable m (msg_wider 4000000001 (delta_room w.terms.mode app.cell_count) 32 (room_short w.terms.mode app.cell_count short) m (msg_up b 4000000001 small (delta_room w.terms.mode app.cell_count) m k)))
     h.frames
 
+-- ---- one call
+
+module _ (app : Application) (s : WorldState) (run : IsRun app s) (count : s.calls < 1000000000) where
+  -- nodes can take an input, whatever was counted
+  pub able_with : (event calls : ℕ) → IsAble app (record s { event = event; calls = calls })
+  able_with event calls =
+      record {
+        term = run.term;
+        cells = omega (arith, run.cells, run.few);
+        routed = run.routed;
+        some = omega (arith, run.sized.switches_few, length_switches s.router.believed s.switches run.routed);
+        few = omega (arith, run.sized.replicas_few, length_map replica_node s.replicas);
+        switches = able_switches app s.cells s.calls (s.calls + 1) s.switches run.cells count (omega (arith, count)) run.switches
+            (seats_inc (s.calls + 1) s.router.believed s.switches run.routed (each_weaker _ (λ (n : SwitchNode). n.state.inc ≤ s.calls + 1) (world_of s).switches (λ n k. k.inc) run.sized.switches));
+        replicas = able_replicas s.calls s.replicas count run.replicas;
+      }
+
+  module _ (after : WorldState) (holds : Holds s.terms s.cells (s.calls + 1) (s.calls + 1) after) (sized : SizedAt (s.calls + 2) app (world_of after)) where
+    strict_after : after.terms.mode ≡ Mode.Strict → app.cell_count ≤ 32
+    strict_after is = run.few_strict (sym (ap (λ (t : Terms). t.mode) holds.terms_are) ∙ is)
+
+    -- every frame of the world after the call may be sent
+    pub sendable_after : AllByRecursion IsSendable after.frames
+    sendable_after = frames_sendable app (world_of after) (s.calls + 2) (omega (arith, count)) strict_after sized
+
+    pub run_after : AreCursors after.frames after.passed after.cursors → IsRun app after
+    run_after waiting =
+        record {
+          cells = holds.cells_are ∙ run.cells;
+          few = run.few;
+          few_strict = strict_after;
+          term = subst (λ (t : Terms). t.t_switch ≤ 1000000) (sym holds.terms_are) run.term;
+          ratio = subst (λ (t : Terms). t.ratio ≤ 1000) (sym holds.terms_are) run.ratio;
+          routed = holds.routed;
+          switches = subst (λ n. AllByRecursion (IsSwitchSeat after.cells n) after.switches) (sym holds.calls_are)
+              (subst (λ n. AllByRecursion (IsSwitchSeat n (s.calls + 1)) after.switches) (sym holds.cells_are) holds.switches);
+          replicas = subst (λ n. AllByRecursion (IsReplicaSeat n) after.replicas) (sym holds.calls_are) holds.replicas;
+          sized = subst (λ n. SizedAt (n + 1) app (world_of after)) (sym holds.calls_are)
+              (let more : s.calls + 2 ≡ s.calls + 1 + 1 = omega arith in subst (λ n. SizedAt n app (world_of after)) more sized);
+          waiting = waiting;
+        }
+
 -- ---- one event
 
 module _ (app : Application) (keeps : IsApplication app) (s : WorldState) (run : IsRun app s) (e : Event) (event : IsEventOf (world_of s) e) (sized : EventSized e) (count : s.calls < 1000000000) where
@@ -143,17 +187,7 @@ module _ (app : Application) (keeps : IsApplication app) (s : WorldState) (run :
   event_can = can_do (counted s) act run.routed fits (few_acts app (world_of s) e event)
 
   pub event_able : IsAble app (counted s)
-  event_able =
-      record {
-        term = run.term;
-        cells = omega (arith, run.cells, run.few);
-        routed = run.routed;
-        some = omega (arith, run.sized.switches_few, length_switches s.router.believed s.switches run.routed);
-        few = omega (arith, run.sized.replicas_few, length_map replica_node s.replicas);
-        switches = able_switches app s.cells s.calls (s.calls + 1) s.switches run.cells count (omega (arith, count)) run.switches
-            (seats_inc (s.calls + 1) s.router.believed s.switches run.routed (each_weaker _ (λ (n : SwitchNode). n.state.inc ≤ s.calls + 1) (world_of s).switches (λ n k. k.inc) run.sized.switches));
-        replicas = able_replicas s.calls s.replicas count run.replicas;
-      }
+  event_able = able_with app s run count (s.event + 1) (s.calls + 1)
 
   -- the event does what it means
   pub event_seen : seen (goes app (counted s) act) ≡ stepped app (world_of s) e
@@ -171,27 +205,11 @@ module _ (app : Application) (keeps : IsApplication app) (s : WorldState) (run :
       (record { terms_are = refl; cells_are = refl; calls_are = refl; routed = run.routed; switches = run.switches; replicas = run.replicas })
       act (few_acts app (world_of s) e event)
 
-  strict_after : after.terms.mode ≡ Mode.Strict → app.cell_count ≤ 32
-  strict_after is = run.few_strict (sym (ap (λ (t : Terms). t.mode) holds.terms_are) ∙ is)
-
   pub event_sendable : AllByRecursion IsSendable (goes app (counted s) act).0.frames
-  event_sendable = frames_sendable app (world_of after) (s.calls + 2) (omega (arith, count)) strict_after sized_after
+  event_sendable = sendable_after app s run count after holds sized_after
 
   pub event_runs : IsRun app after
-  event_runs =
-      record {
-        cells = holds.cells_are ∙ run.cells;
-        few = run.few;
-        few_strict = strict_after;
-        term = subst (λ (t : Terms). t.t_switch ≤ 1000000) (sym holds.terms_are) run.term;
-        ratio = subst (λ (t : Terms). t.ratio ≤ 1000) (sym holds.terms_are) run.ratio;
-        routed = holds.routed;
-        switches = subst (λ n. AllByRecursion (IsSwitchSeat after.cells n) after.switches) (sym holds.calls_are)
-            (subst (λ n. AllByRecursion (IsSwitchSeat n (s.calls + 1)) after.switches) (sym holds.cells_are) holds.switches);
-        replicas = subst (λ n. AllByRecursion (IsReplicaSeat n) after.replicas) (sym holds.calls_are) holds.replicas;
-        sized = subst (λ n. SizedAt (n + 1) app (world_of after)) (sym holds.calls_are)
-            (let more : s.calls + 2 ≡ s.calls + 1 + 1 = omega arith in subst (λ n. SizedAt n app (world_of after)) more sized_after);
-      }
+  event_runs = run_after app s run count after holds sized_after (goes_waits app (counted s) act run.waiting)
 
   -- what the code of an event leaves is what it means, and it is kept to
   pub event_step : (kept : KeptAct) → meant kept ≡ act → (new : WorldState) (result : Result (List Shown) NoMemory) → IfOk result (λ lines. (new, lines) ≡ goes app (counted s) (meant kept)) →
@@ -205,3 +223,9 @@ module _ (app : Application) (keeps : IsApplication app) (s : WorldState) (run :
       let same : after ≡ new = sym (ap (λ (x : Step). x.0) step ∙ ap (λ a. (goes app (counted s) a).0) is) in
       subst (IsRun app) same event_runs
   event_run kept is new (Err x) step = tt
+
+  -- the event is one call more
+  pub event_calls : (kept : KeptAct) → meant kept ≡ act → (new : WorldState) (result : Result (List Shown) NoMemory) → IfOk result (λ lines. (new, lines) ≡ goes app (counted s) (meant kept)) →
+      OnOk result (new.calls ≡ s.calls + 1)
+  event_calls kept is new (Ok lines) step = ap (λ (x : Step). x.0.calls) step ∙ ap (λ a. (goes app (counted s) a).0.calls) is ∙ holds.calls_are
+  event_calls kept is new (Err x) step = tt

@@ -3,9 +3,9 @@ use Rattle.std.proofs.Common.{◌≡◌, ℕ, suc, ◌+◌, ◌<◌, List, [], �
 use Rattle.rp_base.specs.declared.line.Line.{Line as Shown}
 use Rattle.proto_data.specs.declared.message.Msg.{Msg}
 use Rattle.proto_model.specs.Lines.{send_line, send_lines}
-use Rattle.world_state.specs.Shown.{shown, line_of}
+use Rattle.run_history.specs.Shown.{line_of, shown}
 use Rattle.world_state.proofs.Taking.{next_item}
-use Rattle.world_state.proofs.ShownLines.{shown-both}
+use Rattle.run_history.proofs.ShownLines.{shown-both}
 
 sends_behind : (event frame : ℕ) (ms : List Msg) (m : Msg) → send_lines event frame (ms ++ m ∷ []) ≡ send_lines event frame ms ++ send_line event (frame + length ms) m ∷ []
 sends_behind event frame [] m = let none : frame + 0 ≡ frame = omega arith in ap (λ n. send_line event n m ∷ []) (sym none)

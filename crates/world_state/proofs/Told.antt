@@ -7,10 +7,10 @@ use Rattle.proto_model.specs.Effects.{added, made_output, history_after, release
 use Rattle.proto_model.specs.Lines.{Dropped, LostLine, send_lines}
 use Rattle.proto_model.specs.SwitchState.{SwitchDid, Begun}
 use Rattle.proto_model.specs.World.{History}
-use Rattle.world_state.specs.Shown.{shown}
-use Rattle.world_state.specs.Past.{round_begun}
+use Rattle.run_history.specs.Rounds.{round_begun}
+use Rattle.run_history.specs.Shown.{shown}
 use Rattle.world_state.specs.Turns.{told_switch}
-use Rattle.world_state.proofs.ShownLines.{shown-switch}
+use Rattle.run_history.proofs.ShownLines.{shown-switch}
 
 module _ (event : ℕ) (frames : List Msg) (h : History) (did : SwitchDid) where
   -- the lines but those of what was sent

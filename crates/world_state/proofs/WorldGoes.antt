@@ -14,13 +14,14 @@ use Rattle.proto_safety.specs.Changes.{Fits}
 use Rattle.proto_safety.specs.Sizes.{Running}
 use Rattle.proto_safety.proofs.Store.Chains.{in_any}
 use Rattle.reroute.specs.Routes.{up_at, is_up, seen as seen_routes}
+use Rattle.run_history.specs.Shown.{shown_step}
 use Rattle.world_state.specs.declared.nodes.SwitchNode.{SwitchNode as SwitchSeat}
 use Rattle.world_state.specs.declared.nodes.ReplicaNode.{ReplicaNode as ReplicaSeat}
 use Rattle.world_state.specs.declared.state.WorldState.{WorldState}
 use Rattle.world_state.specs.Nodes.{switch_node, switch_nodes, replica_node, replica_nodes, switch_stops, replica_stops, switches_later, replicas_later}
 use Rattle.world_state.specs.Steps.{Step, switch_goes, replica_goes, node_goes, boots_at, begins_again, detects, fed, goes, passes}
 use Rattle.world_state.specs.Turns.{switch_turned, replica_turned}
-use Rattle.world_state.specs.WorldStates.{world_of, shown_step}
+use Rattle.world_state.specs.WorldStates.{world_of}
 use Rattle.world_state.proofs.NodeLists.{believed_there, length_switches, later_switches, later_replicas, changed_switch, changed_replica, set_changes, none_changes}
 
 -- what a step comes to

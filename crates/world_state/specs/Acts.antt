@@ -6,6 +6,7 @@ use Rattle.proto_model.specs.WorldStep.{Act, Refuses, Feeds, Delivers, Passes, A
 use Rattle.world_state.specs.declared.acts.Act.{Act as KeptAct}
 use Rattle.world_state.specs.declared.acts.Act.TheVariants as act
 
+-- the act of the definitions that a kept act is
 abbrev pub meant : KeptAct → Act
 meant (act.Refuses cause) = Refuses cause
 meant (act.Feeds at packet) = Feeds at packet

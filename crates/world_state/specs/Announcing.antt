@@ -11,8 +11,10 @@ use Rattle.world_state.specs.declared.nodes.ReplicaNode.{ReplicaNode as ReplicaS
 abbrev pub config_to : Config → Node → Msg
 config_to config to = record { from = Node.Master; to = to; body = Body.Config config }
 
+-- whether a switch runs
 abbrev pub switch_runs : SwitchSeat → Bool
 switch_runs s = s.runs
 
+-- whether a replica runs
 abbrev pub replica_runs : ReplicaSeat → Bool
 replica_runs r = r.runs

@@ -1,11 +1,10 @@
 pub mod Frames
 pub mod SentFrames
-pub mod Past
 pub mod Passing
+pub mod Waiting
 pub mod Nodes
 pub mod Turns
 pub mod WorldStates
 pub mod Acts
 pub mod Announcing
 pub mod Steps
-pub mod Shown

@@ -10,14 +10,15 @@ use Rattle.proto_data.specs.declared.message.Input.{Input}
 use Rattle.proto_model.specs.Lines.{Refused, send_lines}
 use Rattle.proto_model.specs.WorldStep.{Act, Refuses, Feeds, Delivers, Passes, Advances, Alarms, Stops, Boots, Detects, Announces, Pumps, announcements, changed_at, runs_now}
 use Rattle.reroute.specs.Routes.{detection}
+use Rattle.run_history.specs.Shown.{shown}
 use Rattle.world_state.specs.declared.nodes.SwitchNode.{SwitchNode as SwitchSeat}
 use Rattle.world_state.specs.declared.nodes.ReplicaNode.{ReplicaNode as ReplicaSeat}
 use Rattle.world_state.specs.declared.state.WorldState.{WorldState}
-use Rattle.world_state.specs.Shown.{shown}
 use Rattle.world_state.specs.Nodes.{begun_switch, switch_stops, replica_stops, switches_later, replicas_later}
 use Rattle.world_state.specs.Turns.{switch_turned, replica_turned, told_switch, told_replica, CanTakeSwitch, CanTakeReplica}
 use Rattle.world_state.specs.WorldStates.{world_of}
 
+-- the world after an act, with the lines that the act writes
 abbrev pub Step : Type 0
 Step = WorldState × List Shown
 
@@ -27,6 +28,7 @@ quiet s = (s, [])
 
 -- ---- a node takes an input
 
+-- the switch of this number takes an input, and what it did is written down; where there is none, nothing happens
 abbrev pub switch_goes : Application → WorldState → ℕ → Input → Option SwitchSeat → Step
 switch_goes app s n input None = (s, [])
 switch_goes app s n input (Some node) =
@@ -34,6 +36,7 @@ switch_goes app s n input (Some node) =
     let told = told_switch s.event s.frames s.history turned.1 in
     (record s { switches = set s.switches n turned.0; frames = told.0; history = told.1 }, told.2)
 
+-- the replica of this number takes an input, and what it did is written down; where there is none, nothing happens
 abbrev pub replica_goes : WorldState → ℕ → Input → Option ReplicaSeat → Step
 replica_goes s n input None = (s, [])
 replica_goes s n input (Some node) =
@@ -41,6 +44,7 @@ replica_goes s n input (Some node) =
     let told = told_replica s.event s.frames turned.1 in
     (record s { replicas = set s.replicas n turned.0; frames = told.0 }, told.1)
 
+-- a node takes an input; the master takes none
 abbrev pub node_goes : Application → WorldState → Node → Input → Step
 node_goes app s (Node.Switch n) input = switch_goes app s n input (slice_get s.switches n)
 node_goes app s (Node.Replica n) input = replica_goes s n input (slice_get s.replicas n)
@@ -48,12 +52,15 @@ node_goes app s Node.Master input = (s, [])
 
 -- ---- what changes without a node's step
 
+-- a packet was fed in the present event
 abbrev pub fed : WorldState → Packet → WorldState
 fed s p = record s { history = record s.history { fed = s.history.fed ++ record { event = s.event; packet = p } ∷ [] } }
 
+-- the frame of this number is passed over from now on
 abbrev pub passes : WorldState → ℕ → WorldState
 passes s i = record s { passed = i ∷ s.passed }
 
+-- the clocks go on, switches first
 abbrev pub later : WorldState → List ℕ → WorldState
 later s by =
     record s {
@@ -61,6 +68,7 @@ later s by =
       replicas = replicas_later s.replicas (drop (length s.switches) by);
     }
 
+-- a node fails; the master never does
 abbrev pub stops : WorldState → Node → WorldState
 stops s (Node.Switch n) = record s { switches = changed_at s.switches n switch_stops }
 stops s (Node.Replica n) = record s { replicas = changed_at s.replicas n replica_stops }
@@ -70,21 +78,26 @@ stops s Node.Master = s
 abbrev pub begins_again : WorldState → SwitchSeat → SwitchSeat
 begins_again s node = begun_switch node.clock node.state.state.me (node.state.state.inc + 1) s.cells s.terms s.router.config
 
+-- the switch in this place begins again, if there is one
 abbrev pub boots_at : WorldState → ℕ → Option SwitchSeat → WorldState
 boots_at s n None = s
 boots_at s n (Some node) = record s { switches = set s.switches n (begins_again s node) }
 
+-- the switch of this number begins again, if there is one
 abbrev pub boots : WorldState → ℕ → WorldState
 boots s n = boots_at s n (slice_get s.switches n)
 
+-- routing, or the configuration, learns whether a node runs
 abbrev pub detects : WorldState → Node → WorldState
 detects s node = record s { router = (detection s.router node (runs_now (world_of s) node)).0 }
 
+-- messages are sent in the present event: their frames come last
 abbrev pub sends : WorldState → List Msg → Step
 sends s ms = (record s { frames = s.frames ++ ms }, shown (send_lines s.event (length s.frames) ms))
 
 -- ---- an act
 
+-- the world after an act of the present event
 abbrev pub goes : Application → WorldState → Act → Step
 goes app s (Refuses cause) = (s, shown (Refused s.event cause ∷ []))
 goes app s (Feeds n p) = node_goes app (fed s p) (Node.Switch n) (Input.Packet p)

@@ -11,10 +11,10 @@ use Rattle.proto_model.specs.SwitchState.{SwitchDid}
 use Rattle.proto_model.specs.World.{History}
 use Rattle.switch_core.specs.States.{turn}
 use Rattle.store_replica.specs.Stores.{stepped, booked}
+use Rattle.run_history.specs.Shown.{shown}
 use Rattle.world_state.specs.declared.nodes.SwitchNode.{SwitchNode as SwitchSeat}
 use Rattle.world_state.specs.declared.nodes.ReplicaNode.{ReplicaNode as ReplicaSeat}
 use Rattle.world_state.specs.declared.turns.Said.{Said}
-use Rattle.world_state.specs.Shown.{shown}
 
 -- a switch of this application, whose clock, number of turns and incarnation are within its limits
 pub record CanTakeSwitch (app : Application) (s : SwitchSeat) : Type 0 where
@@ -31,9 +31,11 @@ pub record CanTakeReplica (r : ReplicaSeat) : Type 0 where
 
 -- ---- turns
 
+-- a switch takes an input at its own clock
 abbrev pub switch_turned : Application → SwitchSeat → Input → SwitchSeat × SwitchDid
 switch_turned app s input = (record s { state = (turn app s.state s.clock input).0 }, (turn app s.state s.clock input).1)
 
+-- the switch of this number takes an input, if it is there
 abbrev pub switches_turned : Application → List SwitchSeat → ℕ → Input → Option SwitchSeat → List SwitchSeat × Option SwitchDid
 switches_turned app ss n input None = (ss, None)
 switches_turned app ss n input (Some s) = (set ss n (switch_turned app s input).0, Some (switch_turned app s input).1)
@@ -42,6 +44,7 @@ switches_turned app ss n input (Some s) = (set ss n (switch_turned app s input).
 abbrev pub said_by : StoreDid → Said
 said_by did = record { sent = did.sent; lost = did.lost }
 
+-- a replica takes an input at its own clock, and books what it applied in the event of this number
 abbrev pub replica_turned : ReplicaSeat → ℕ → Input → ReplicaSeat × Said
 replica_turned r event input = (
   record r {
@@ -51,15 +54,18 @@ replica_turned r event input = (
   said_by (stepped r.state r.clock input).1,
 )
 
+-- the replica of this number takes an input, if it is there
 abbrev pub replicas_turned : List ReplicaSeat → ℕ → ℕ → Input → Option ReplicaSeat → List ReplicaSeat × Option Said
 replicas_turned rs n event input None = (rs, None)
 replicas_turned rs n event input (Some r) = (set rs n (replica_turned r event input).0, Some (replica_turned r event input).1)
 
 -- ---- what is written down
 
+-- the frames and the history behind what a switch did in this event, and its lines
 abbrev pub told_switch : ℕ → List Msg → History → SwitchDid → List Msg × History × List Shown
 told_switch event frames history did = (frames ++ did.sent, history_after event history did, shown (switch_lines event (length frames) did))
 
+-- the frames behind what a replica did in this event, and its lines
 abbrev pub told_replica : ℕ → List Msg → Said → List Msg × List Shown
 told_replica event frames said = (
   frames ++ said.sent,

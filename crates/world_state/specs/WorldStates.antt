@@ -17,8 +17,8 @@ use Rattle.store_replica.specs.Stores.{stepped}
 use Rattle.world_state.specs.declared.nodes.SwitchNode.{SwitchNode as SwitchSeat}
 use Rattle.world_state.specs.declared.nodes.ReplicaNode.{ReplicaNode as ReplicaSeat}
 use Rattle.world_state.specs.declared.state.WorldState.{WorldState}
-use Rattle.world_state.specs.Shown.{shown}
 use Rattle.world_state.specs.Frames.{IsSendable}
+use Rattle.world_state.specs.Waiting.{AreCursors}
 use Rattle.world_state.specs.Nodes.{switch_nodes, replica_nodes, IsSwitchSeat, IsReplicaSeat}
 
 -- the world of these nodes, routes, frames and history
@@ -36,10 +36,6 @@ world_of s =
       history = s.history;
     }
 
--- a step with its lines as a report shows them
-abbrev pub shown_step : WorldStep → World × List Shown
-shown_step step = (step.0, shown step.1)
-
 -- ---- what is kept to
 
 -- No node was called more often than the world. Replicas stand where their books leave them. Numbers are as the calls allow.
@@ -53,3 +49,4 @@ pub record IsRun (app : Application) (s : WorldState) : Type 0 where
   pub switches : AllByRecursion (IsSwitchSeat s.cells s.calls) s.switches
   pub replicas : AllByRecursion (IsReplicaSeat s.calls) s.replicas
   pub sized : SizedAt (s.calls + 1) app (world_of s)
+  pub waiting : AreCursors s.frames s.passed s.cursors

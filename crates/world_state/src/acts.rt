@@ -5,6 +5,7 @@ ghost use Rattle.proto_model.specs.Routing.{picked};
 ghost use Rattle.proto_model.specs.World.{believed_switches};
 ghost use Rattle.proto_model.specs.WorldStep.{act_of, event_packet, feed_at, is_replica};
 ghost use Rattle.world_state.specs.Acts.{meant, IsEventOf};
+ghost use Rattle.world_state.specs.Waiting.{AreCursors};
 ghost use Rattle.world_state.specs.WorldStates.{world_of};
 
 use crate::state::WorldState;
@@ -40,6 +41,9 @@ impl WorldState {
         requires routed { length self.now.router.believed ≡ length self.now.switches }
         requires few { length self.now.replicas ≤ 5 }
         requires ratio { self.now.terms.ratio ≤ 1000 }
+        requires some { length (world_of self.now).switches ≤ 8 }
+        requires few_too { length (world_of self.now).replicas ≤ 5 }
+        requires cursors { AreCursors self.now.frames self.now.passed self.now.cursors }
         ensures { IfOk result (λ act. meant act ≡ act_of (A.meaning app.now) (world_of self.now) e.now) }
     {
         match e {
@@ -145,6 +149,9 @@ impl WorldState {
 
     fn next_act<A: App>(&self, _app: &A) -> Result<Act, NoMemory>
         requires routed { length self.now.router.believed ≡ length self.now.switches }
+        requires some { length (world_of self.now).switches ≤ 8 }
+        requires few { length (world_of self.now).replicas ≤ 5 }
+        requires cursors { AreCursors self.now.frames self.now.passed self.now.cursors }
         ensures { IfOk result (λ act. meant act ≡ act_of (A.meaning _app.now) (world_of self.now) EventValue.Next) }
     {
         if self.frames_full() {

@@ -1,9 +1,14 @@
 //! The frames of a run.
-ghost use Rattle.std.specs.Prelude.{◌≡◌, ◌<◌, ◌≤◌, [], ◌∷◌, ◌++◌, Some, length, option_map, slice_get, IfOk, OnOk};
+ghost use Rattle.std.specs.Prelude.{◌≡◌, ◌<◌, ◌≤◌, ◌&&◌, [], ◌∷◌, ◌++◌, Some, length, option_map, slice_get, IfOk, OnOk};
 ghost use Rattle.std.specs.Option.{option_copied};
+ghost use Rattle.std.specs.List.{position};
+ghost use Rattle.std.specs.Str.{bytes_eq};
+ghost use Rattle.rp_base.specs.Nodes.{same_node};
+ghost use Rattle.proto_model.specs.Handing.{found_from};
 ghost use Rattle.rp_frame.specs.Spelling.{spelling};
 ghost use Rattle.proto_data.specs.declared.message.Msg.{Msg as MsgValue};
 ghost use Rattle.world_state.specs.Frames.{IsFrame, IsSendable, message_of};
+ghost use Rattle.world_state.specs.Waiting.{goes_to};
 
 use proto_model::Msg;
 use rp_base::{Bytes, NoMemory, Node};
@@ -31,6 +36,22 @@ fn read(alloc: Global, frame: &Bytes) -> Result<Msg, NoMemory>
 pub(crate) struct Sent {
     to: Node,
     bytes: Bytes,
+}
+
+impl Sent {
+    // Whether this frame goes to this node and has these bytes.
+    fn is(&self, to: Node, bytes: &[u8]) -> bool
+        ensures { result ≡ (same_node self.now.to to && bytes_eq self.now.bytes bytes.now) }
+    {
+        self.to == to && self.bytes.as_slice() == bytes
+    }
+}
+
+// The place of the first of these frames that goes to this node and has these bytes.
+fn place_of(frames: &[Sent], to: Node, bytes: &[u8]) -> Option<usize>
+    ensures { result ≡ position (λ frame. same_node frame.to to && bytes_eq frame.bytes bytes.now) frames.now }
+{
+    frames.iter().position(|frame| frame.is(to, bytes))
 }
 
 /// The frames that were sent, in order of their numbers. Of each message the bytes are kept, and not the message.
@@ -103,6 +124,14 @@ impl Frames {
         self.items[number].to
     }
 
+    /// Whether the frame with this number goes to this node.
+    pub(crate) fn goes_to(&self, number: usize, to: Node) -> bool
+        requires { number < length self.now }
+        ensures { result ≡ goes_to to (slice_get self.now number) }
+    {
+        self.to(number) == to
+    }
+
     /// The bytes of the frame with this number.
     pub(crate) fn bytes(&self, number: usize) -> &[u8]
         requires { number < length self.now }
@@ -110,6 +139,16 @@ impl Frames {
         ensures short { length result.now ≤ 3700 }
     {
         self.items[number].bytes.as_slice()
+    }
+
+    /// The number of the first frame to this node that has these bytes, if there is one.
+    pub(crate) fn find(&self, to: Node, bytes: &[u8]) -> Option<u64>
+        ensures { result ≡ found_from spelling to bytes.now 0 self.now }
+    {
+        match place_of(&self.items, to, bytes) {
+            Some(number) => Some(number as u64),
+            None => None,
+        }
     }
 
     /// A message is sent: its frame comes last. Gives the bytes once more, for the frame's line.

@@ -3,16 +3,18 @@
 
 mod acts;
 mod announcements;
-mod event_lines;
+mod contents;
+mod cursors;
 mod frames;
+mod hand;
 mod nodes;
 mod on;
 mod opening;
 mod passing;
-mod past;
 mod performs;
 mod sending;
 mod state;
 mod turns;
 
+pub use nodes::ReplicaNode;
 pub use state::WorldState;

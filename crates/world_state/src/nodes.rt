@@ -5,9 +5,9 @@ ghost use Rattle.std.specs.List.{AllByRecursion};
 ghost use Rattle.proto_model.specs.WorldStep.{changed_at};
 ghost use Rattle.world_state.specs.Nodes.{begun_switch, begun_replica, switch_stops, replica_stops, switches_later, replicas_later};
 
-use crate::past::Book;
 use proto_model::{Config, Terms};
 use rp_base::NoMemory;
+use run_history::Book;
 use std::alloc::Global;
 use std::marker::Model;
 use store_replica::Replica;
@@ -23,7 +23,7 @@ pub(crate) struct SwitchNode {
 
 /// A replica of a run, with the entries that it applied, in order.
 #[derive(Drop)]
-pub(crate) struct ReplicaNode {
+pub struct ReplicaNode {
     pub(crate) runs: bool,
     pub(crate) clock: u64,
     pub(crate) state: Replica,

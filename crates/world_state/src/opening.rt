@@ -7,14 +7,15 @@ ghost use Rattle.proto_model.specs.World.{below, opened};
 ghost use Rattle.world_state.specs.Nodes.{IsReplicaSeat, begun_replica, begun_switch};
 ghost use Rattle.world_state.specs.WorldStates.{IsRun, world_of};
 
+use crate::cursors::Cursors;
 use crate::frames::Frames;
 use crate::nodes::{ReplicaNode, Replicas, SwitchNode, Switches};
 use crate::passing::Passed;
-use crate::past::History;
 use crate::state::WorldState;
 use proto_model::{Config, Terms};
 use reroute::Router;
 use rp_base::NoMemory;
+use run_history::History;
 use std::alloc::Global;
 
 // So many switches before their first turns.
@@ -97,6 +98,7 @@ impl WorldState {
             event: 0,
             calls: 0,
             history: History::new(alloc),
+            cursors: Cursors::new(),
             alloc,
         })
     }

@@ -12,8 +12,6 @@ pub(crate) struct Passed {
     order: Vec<u64>,
     // Whether a frame is passed over; for those behind the last flag it is not.
     flags: Vec<bool>,
-    // Each frame below this one is passed over.
-    first: usize,
 }
 
 impl Model for Passed {
@@ -24,7 +22,7 @@ impl Model for Passed {
 
     ghost view = { λ p. reverse p.order.items };
 
-    ghost invariant = { λ p. IsPassing p.order.items p.flags.items p.first };
+    ghost invariant = { λ p. IsPassing p.order.items p.flags.items };
 }
 
 // There are flags for the numbers up to this one; the new ones are off.
@@ -38,18 +36,6 @@ fn grow(flags: &mut Vec<bool>, number: usize) -> Result<(), NoMemory>
     Ok(())
 }
 
-// The first number from this one on whose flag is off.
-fn first_off(flags: &[bool], from: usize) -> usize
-    requires { (i : ℕ) → i < from → flagged flags.now i ≡ true }
-    ensures { (i : ℕ) → i < result → flagged flags.now i ≡ true }
-{
-    let mut first = from;
-    while first < flags.len() && flags[first] {
-        first += 1;
-    }
-    first
-}
-
 impl Passed {
     /// Nothing is passed over. Takes no memory.
     pub(crate) fn new(alloc: Global) -> Passed
@@ -58,7 +44,6 @@ impl Passed {
         Passed {
             order: Vec::new(alloc),
             flags: Vec::new(alloc),
-            first: 0,
         }
     }
 
@@ -72,13 +57,6 @@ impl Passed {
         }
     }
 
-    /// A number below which every frame is passed over.
-    pub(crate) fn first(&self) -> usize
-        ensures { (i : ℕ) → i < result → is_passed self.now i ≡ true }
-    {
-        self.first
-    }
-
     /// The frame of this number is passed over from now on.
     ///
     /// # Errors
@@ -89,7 +67,6 @@ impl Passed {
         grow(&mut self.flags, number as usize)?;
         self.order.push(number)?;
         self.flags[number as usize] = true;
-        self.first = first_off(&self.flags, self.first);
         Ok(())
     }
 }

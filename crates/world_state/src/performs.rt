@@ -8,7 +8,6 @@ ghost use Rattle.world_state.specs.Frames.{IsSendable};
 ghost use Rattle.world_state.specs.Steps.{IsAble, CanDo, node_goes, boots, detects, goes, later, passes, quiet, stops};
 
 use crate::acts::Act;
-use crate::event_lines::refused;
 use crate::nodes::SwitchNode;
 use crate::sending::send;
 use crate::state::WorldState;
@@ -16,6 +15,7 @@ use crate::turns::{tell_replica, tell_switch};
 use proto_model::{Input, Msg};
 use rp_app::App;
 use rp_base::{Advances, Lines, NoMemory, Node, Packet};
+use run_history::refused;
 
 impl WorldState {
     // A switch takes an input, if it is there.
@@ -129,7 +129,12 @@ impl WorldState {
     }
 
     // A frame arrives at its addressee.
-    fn deliver<A: App>(&mut self, app: &A, frame: u64, msg: Msg) -> Result<Lines, NoMemory>
+    pub(crate) fn deliver<A: App>(
+        &mut self,
+        app: &A,
+        frame: u64,
+        msg: Msg,
+    ) -> Result<Lines, NoMemory>
         requires able { IsAble (A.meaning app.now) self.old }
         requires sent { AllByRecursion IsSendable (goes (A.meaning app.now) self.old (Delivers frame msg)).0.frames }
         ensures { IfOk result (λ lines. (self.new, lines) ≡ goes (A.meaning app.now) self.old (Delivers frame msg)) }

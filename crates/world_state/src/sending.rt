@@ -2,8 +2,8 @@
 ghost use Rattle.std.specs.Prelude.{◌≡◌, [], ◌∷◌, ◌++◌, length, OnOk};
 ghost use Rattle.std.specs.List.{AllByRecursion};
 ghost use Rattle.proto_model.specs.Lines.{send_line, send_lines};
+ghost use Rattle.run_history.specs.Shown.{line_of, shown};
 ghost use Rattle.world_state.specs.Frames.{IsSendable};
-ghost use Rattle.world_state.specs.Shown.{line_of, shown};
 
 use crate::frames::Frames;
 use proto_model::Msg;

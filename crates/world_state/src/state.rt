@@ -3,16 +3,18 @@ ghost use Rattle.std.specs.Prelude.{◌≡◌, ◌≤◌, length, nat_le, slice_
 ghost use Rattle.proto_model.specs.World.{ReplicaNode as ReplicaValue, numbers_from, running_replicas};
 ghost use Rattle.proto_model.specs.WorldStep.{believed_up, frames_full, next_from, runs_at_replica, runs_at_switch, runs_now};
 ghost use Rattle.world_state.specs.Nodes.{replica_nodes};
+ghost use Rattle.world_state.specs.Waiting.{AreCursors};
 ghost use Rattle.world_state.specs.WorldStates.{world_of};
 
+use crate::cursors::Cursors;
 use crate::frames::Frames;
 use crate::nodes::{ReplicaNode, Replicas, Switches};
 use crate::passing::Passed;
-use crate::past::History;
 use proto_data::{FRAMES, MESSAGES};
 use proto_model::{Msg, Terms};
 use reroute::Router;
 use rp_base::{NoMemory, Node};
+use run_history::History;
 use std::alloc::Global;
 
 /// A world, without its application.
@@ -33,6 +35,8 @@ pub struct WorldState {
     /// How many events and handed frames there were.
     pub(crate) calls: u64,
     pub(crate) history: History,
+    /// From where the next frame is looked for.
+    pub(crate) cursors: Cursors,
     pub(crate) alloc: Global,
 }
 
@@ -80,7 +84,7 @@ impl WorldState {
     }
 
     /// Whether a node runs; one that isn't there doesn't, and neither does the master.
-    pub(crate) fn runs(&self, node: Node) -> bool
+    pub fn runs(&self, node: Node) -> bool
         requires routed { length self.now.router.believed ≡ length self.now.switches }
         ensures { result ≡ runs_now (world_of self.now) node }
     {
@@ -113,9 +117,12 @@ impl WorldState {
     /// `NoMemory`.
     pub(crate) fn next_frame(&self) -> Result<Option<(u64, Msg)>, NoMemory>
         requires routed { length self.now.router.believed ≡ length self.now.switches }
+        requires some { length (world_of self.now).switches ≤ 8 }
+        requires few { length (world_of self.now).replicas ≤ 5 }
+        requires cursors { AreCursors self.now.frames self.now.passed self.now.cursors }
         ensures { IfOk result (λ f. f ≡ next_from (world_of self.now) 0 self.now.frames) }
     {
-        for i in self.passed.first()..self.frames.len() {
+        for i in self.first_place()..self.frames.len() {
             if !self.passed.has(i) && self.runs(self.frames.to(i)) {
                 let msg = self.frames.at(i)?;
                 return Ok(Some((i as u64, msg)));

@@ -4,14 +4,13 @@ ghost use Rattle.std.specs.List.{AllByRecursion};
 ghost use Rattle.world_state.specs.Frames.{IsSendable};
 ghost use Rattle.world_state.specs.Turns.{CanTakeSwitch, CanTakeReplica, replica_turned, replicas_turned, switch_turned, switches_turned, told_switch, told_replica};
 
-use crate::event_lines;
 use crate::frames::Frames;
 use crate::nodes::{ReplicaNode, Replicas, SwitchNode, Switches};
-use crate::past::History;
 use crate::sending::send;
 use proto_model::Input;
 use rp_app::App;
 use rp_base::{Lines, Lost, NoMemory};
+use run_history::{History, store_lines, switch_lines};
 use std::alloc::Global;
 use store_replica::{Msgs, StoreDid};
 use switch_core::SwitchDid;
@@ -114,7 +113,7 @@ pub(crate) fn tell_switch(
         begun,
         lost,
     } = did;
-    let mut lines = event_lines::switch_lines(alloc, event, &released, dropped, lost)?;
+    let mut lines = switch_lines(alloc, event, &released, dropped, lost)?;
     history.push_rounds(event, &begun)?;
     history.push_item(event, item, &released, sent.as_slice())?;
     history.push_released(event, released)?;
@@ -135,7 +134,7 @@ pub(crate) fn tell_replica(
     requires sent { AllByRecursion IsSendable said.sent }
     ensures { IfOk result (λ lines. (frames.new, lines) ≡ told_replica event frames.old said) }
 {
-    let mut lines = event_lines::store_lines(alloc, event, said.lost)?;
+    let mut lines = store_lines(alloc, event, said.lost)?;
     send(&mut lines, event, frames, said.sent.as_slice())?;
     Ok(lines)
 }

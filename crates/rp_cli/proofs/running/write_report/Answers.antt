@@ -5,12 +5,11 @@ use Rattle.rp_base.specs.declared.line.Line.{Line}
 use Rattle.proto_model.specs.World.{World}
 use Rattle.proto_model.specs.WorldStep.{world_step}
 use Rattle.proto_model.specs.EndLines.{end_lines}
-use Rattle.rp_world.specs.AppWorld.{stepped, shown}
+use Rattle.run_history.specs.Shown.{stepped, shown}
 use Rattle.run_report.specs.Report.{NamesKind}
 use Rattle.rp_cli.specs.Reports.{lines_written, report_text}
 use Rattle.rp_cli.proofs.Fronts.{Midway, Midway-begun, Midway-more, Midway-front, Midway-part, Midway-whole, on_err, on_err-map, on_ok-map, HasCause-later, HasCause-on}
 use Rattle.rp_cli.proofs.ReportTexts.{rest_text, rest_text-on, rest_text-end, report_text-is, shown-names}
-use Rattle.proto_safety.proofs.Inductions.EventCounts.{event_counts}
 use Rattle.rp_cli.proofs.running.write_report.Goals as goal
 
 pub loop-event-init : goal.loop-event-init
@@ -22,7 +21,8 @@ loop-event-init g c =
     let begun = subst P (report_text-is c.args.frames app c.args.setup.now c.args.events.now) (Midway-begun here whole) in
     record {
       same_app = rw c.in_ok-world.ensures refl;
-      count = rw c.in_ok-world.ensures refl;
+      same_setup = rw c.in_ok-world.ensures refl;
+      calls = rw c.in_ok-world.ensures refl;
       midway = rw c.in_ok-world.ensures begun;
       later = omega arith;
     }
@@ -34,10 +34,10 @@ loop-event-preserved g c =
     let on : (c.on.new.self.world, c.in_ok-lines.lines) ≡ stepped app c.loop-event.world.world c.event-item.result =
     rw c.loop-event.invariant.same_app at c.in_ok-lines.ensures.ok in
     let cut = rest_text-on c.args.frames app c.loop-event.world.world c.on.new.self.world c.args.events.now i c.event-item.result c.in_ok-lines.lines (omega arith) c.event-item.is on in
-    let number : World × List Line → ℕ = λ p. p.0.event in
     record {
       same_app = c.on.ensures.app ∙ c.loop-event.invariant.same_app;
-      count = ap number on ∙ event_counts app c.loop-event.world.world c.event-item.result ∙ ap (λ n. n + 1) c.loop-event.invariant.count;
+      same_setup = c.on.ensures.setup ∙ c.loop-event.invariant.same_setup;
+      calls = c.in_ok-lines.ensures.calls ∙ ap (λ n. n + 1) c.loop-event.invariant.calls;
       midway = Midway-more _ _ _ _ _ _ (rw cut at c.loop-event.invariant.midway) (rw c.as_slice.ensures at c.in_ok-write_lines.ensures.ok);
       later = omega arith;
     }

@@ -7,7 +7,8 @@ use Rattle.rp_cli.proofs.running.write_report.Given as goal
 abbrev pub invariant-loop-event : goal.invariant-loop-event
 invariant-loop-event g l = record {
   same_app : l.world.app ≡ l.fn.app;
-  count : l.world.world.event ≡ l.event-index;
+  same_setup : l.world.setup ≡ l.setup;
+  calls : l.world.calls ≡ l.event-index;
   midway : Midway (g.K.Sink.written l.fn.out) (g.K.Sink.written l.out) (report_text l.frames (g.A.App.meaning l.fn.app) l.setup l.events) (rest_text l.frames (g.A.App.meaning l.fn.app) l.world.world (drop l.event-index l.events));
   later : g.K.Sink.faults l.fn.out ≤ g.K.Sink.faults l.out;
 }

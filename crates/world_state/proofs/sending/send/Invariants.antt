@@ -1,6 +1,6 @@
 use Rattle.std.proofs.Common.{◌≡◌, ◌++◌, length, take}
 use Rattle.proto_model.specs.Lines.{send_lines}
-use Rattle.world_state.specs.Shown.{shown}
+use Rattle.run_history.specs.Shown.{shown}
 use Rattle.world_state.proofs.sending.send.Given as goal
 
 abbrev pub invariant-loop-m : goal.invariant-loop-m

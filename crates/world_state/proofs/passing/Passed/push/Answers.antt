@@ -10,5 +10,4 @@ invariant_of-self-2 c =
     record {
       flags_are = λ i. subst (λ (xs : List ℕ). flagged (set flags c.args.number true) i ≡ is_passed (reverse xs) i) (sym c.in_ok-push.ensures.items)
           (passed_more c.self.inside.order.items flags c.args.number i c.in_ok-grow.ensures.there (c.grow.ensures.same i ∙ c.self.invariant.flags_are i));
-      below = λ i less. subst (λ (fs : List Bool). flagged fs i ≡ true) c.deref.ensures.value (c.first_off-self-inside.ensures i less);
     }

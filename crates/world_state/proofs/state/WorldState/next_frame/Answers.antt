@@ -1,11 +1,12 @@
 use Rattle.std.proofs.Common.{◌∙◌, sym}
 use Rattle.world_state.specs.WorldStates.{world_of}
-use Rattle.world_state.proofs.FrameTests.{from_first, next_there, next_down, next_passed}
+use Rattle.world_state.proofs.WaitingKept.{from_start}
+use Rattle.world_state.proofs.FrameTests.{next_there, next_down, next_passed}
 use Rattle.world_state.proofs.state.WorldState.next_frame.Goals as goal
 use Rattle.world_state.proofs.state.WorldState.next_frame.Goals.{else-not-has-via-then-not-has+else-runs, else-not-has-via-else-not-has}
 
 pub loop-i-init : goal.loop-i-init
-loop-i-init c = from_first (world_of c.args.self.now) c.first-i.result c.args.self.now.frames (λ j less. c.first-i.ensures j less)
+loop-i-init c = from_start (world_of c.args.self.now) c.first_place-i.result c.args.self.now.frames c.first_place-i.ensures
 
 pub returns-then-runs : goal.returns-then-runs
 returns-then-runs c =

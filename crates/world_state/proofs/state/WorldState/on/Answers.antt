@@ -1,36 +1,19 @@
-use Rattle.std.proofs.Common.{sym, subst}
-use Rattle.std.specs.List.{AllByRecursion}
-use Rattle.proto_model.specs.WorldStep.{Act}
-use Rattle.world_state.specs.Frames.{IsSendable}
-use Rattle.world_state.specs.Steps.{CanDo, goes}
-use Rattle.world_state.proofs.RunAfter.{counted, event_able, event_can, event_sendable, event_step, event_run}
+use Rattle.world_state.proofs.Settled.{settled_run, settled_calls, settled_event, settled_grows, settled_step}
 use Rattle.world_state.proofs.state.WorldState.on.Goals as goal
 
-pub perform-requires-clause-able : goal.perform-requires-clause-able
-perform-requires-clause-able g c =
-    let app = g.A.App.meaning c.args.app.now in
-    event_able app (g.met.A.App.promised c.args.app.now) c.args.self.now c.requires.run c.args.e.now c.requires.event c.requires.sized c.requires.count
+pub happens-requires-clause-run : goal.happens-requires-clause-run
+happens-requires-clause-run g c = settled_run (g.A.App.meaning c.args.app.now) c.args.self.now c.settle_for.new.self c.settle_for.ensures.same c.settle_for.ensures.cursors c.requires.run
 
-pub perform-requires-clause-can : goal.perform-requires-clause-can
-perform-requires-clause-can g c =
-    let app = g.A.App.meaning c.args.app.now in
-    subst (CanDo (counted c.args.self.now)) (sym c.in_ok-act.ensures)
-    (event_can app (g.met.A.App.promised c.args.app.now) c.args.self.now c.requires.run c.args.e.now c.requires.event c.requires.sized c.requires.count)
+pub happens-requires-clause-event : goal.happens-requires-clause-event
+happens-requires-clause-event g c = settled_event (g.A.App.meaning c.args.app.now) c.args.self.now c.settle_for.new.self c.settle_for.ensures.same c.args.e.now c.requires.event
 
-pub perform-requires-clause-sent : goal.perform-requires-clause-sent
-perform-requires-clause-sent g c =
-    let app = g.A.App.meaning c.args.app.now in
-    subst (λ (a : Act). AllByRecursion IsSendable (goes app (counted c.args.self.now) a).0.frames) (sym c.in_ok-act.ensures)
-    (event_sendable app (g.met.A.App.promised c.args.app.now) c.args.self.now c.requires.run c.args.e.now c.requires.event c.requires.sized c.requires.count)
+pub happens-requires-clause-count : goal.happens-requires-clause-count
+happens-requires-clause-count g c = settled_calls (g.A.App.meaning c.args.app.now) c.args.self.now c.settle_for.new.self c.settle_for.ensures.same c.requires.count
 
 pub returns-clause-step : goal.returns-clause-step
 returns-clause-step g c =
-    let app = g.A.App.meaning c.args.app.now in
-    event_step app (g.met.A.App.promised c.args.app.now) c.args.self.now c.requires.run c.args.e.now c.requires.event c.requires.sized c.requires.count
-    c.in_ok-act.act c.in_ok-act.ensures c.perform.new.self c.perform.result c.perform.ensures
+    settled_step (g.A.App.meaning c.args.app.now) c.args.self.now c.settle_for.new.self c.settle_for.ensures.same c.args.e.now c.happens.new.self c.happens.result c.happens.ensures.step
 
-pub returns-clause-run : goal.returns-clause-run
-returns-clause-run g c =
-    let app = g.A.App.meaning c.args.app.now in
-    event_run app (g.met.A.App.promised c.args.app.now) c.args.self.now c.requires.run c.args.e.now c.requires.event c.requires.sized c.requires.count
-    c.in_ok-act.act c.in_ok-act.ensures c.perform.new.self c.perform.result c.perform.ensures
+pub returns-clause-calls : goal.returns-clause-calls
+returns-clause-calls g c =
+    settled_grows (g.A.App.meaning c.args.app.now) c.args.self.now c.settle_for.new.self c.settle_for.ensures.same c.happens.new.self c.happens.result c.happens.ensures.calls

@@ -40,4 +40,4 @@ returns-clause-run c app count =
     c.in_ok-first.ensures ∙ (λ i. map (λ n. begun_switch 0 n 1 c.args.cells c.args.terms.now (one i)) (below c.args.switches))
     in
     opened_runs c.args.cells setup _ c.requires.switches_fit c.requires.some_replica c.requires.replicas_fit c.requires.cells c.requires.few c.requires.term c.requires.ratio
-    (returns-clause-made c) refl refl (ap (λ (r : Routes). r.believed) c.open-router.ensures) first c.in_ok-store.ensures.stand app count
+    (returns-clause-made c) refl refl (ap (λ (r : Routes). r.believed) c.open-router.ensures) c.new-4.ensures first c.in_ok-store.ensures.stand app count

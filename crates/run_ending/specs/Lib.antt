@@ -1,0 +1,3 @@
+pub mod EpochNotes
+pub mod EpochTable
+pub mod Endings
