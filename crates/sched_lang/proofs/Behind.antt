@@ -41,10 +41,10 @@ unless P true r e h = tt
 unless P false r e h = h
 
 -- what a reader returned, where this holds of what the lines read
-pub of_given : (P : Schedule → Type 0) (r : Result Schedule SchedEnd) (read : Result Schedule Fault) → Gives (λ s. s) r read → IfOk read P → IfOk r P
-of_given P (Ok s) read h k = subst (λ (x : Result Schedule Fault). IfOk x P) h k
-of_given P (Err (end.Refused line cause)) read h k = tt
-of_given P (Err end.NoMemory) read h k = tt
+pub of_given : {A : Type 0} (view : A → Schedule) (P : Schedule → Type 0) (r : Result A SchedEnd) (read : Result Schedule Fault) → Gives view r read → IfOk read P → IfOk r (λ x. P (view x))
+of_given view P (Ok x) read h k = subst (λ (y : Result Schedule Fault). IfOk y P) h k
+of_given view P (Err (end.Refused line cause)) read h k = tt
+of_given view P (Err end.NoMemory) read h k = tt
 
 -- ---- numbers
 

@@ -1,5 +1,5 @@
 -- What a text reads as: its schedule, or the first line that fails with its cause.
-use Rattle.std.specs.Prelude.{option_to_list, ◌≡◌, ℕ, ◌+◌, if◌then◌else◌, nat_le, nat_lt, List, [], ◌∷◌, ◌++◌, length, Option, Some, None, Result, Ok, Err}
+use Rattle.std.specs.Prelude.{option_to_list, ◌≡◌, ℕ, ◌+◌, ◌-◌, if◌then◌else◌, nat_le, nat_lt, List, [], ◌∷◌, ◌++◌, length, Option, Some, None, Result, Ok, Err}
 use Rattle.rp_base.specs.declared.event.Event.{Event}
 use Rattle.sched_lang.specs.declared.header.Header.{Header}
 use Rattle.sched_lang.specs.declared.schedule.Schedule.{Schedule}
@@ -43,6 +43,15 @@ header n ls = do
   l6 ← next_line (l5.0 + 1) l5.2
   snapshot ← at_line l6.0 (mode_line l6.1)
   Ok (record { switches = switches; chain = chain; t_switch = lease.0; t_store = lease.1; ratio = ratio; snapshot = snapshot }, l6.0 + 1, l6.2)
+
+-- the number of a header's last line
+abbrev pub last_line : {A : Type 0} → Result (Header × ℕ × A) Fault → ℕ
+last_line (Ok h) = h.1 - 1
+last_line (Err fault) = 0
+
+-- the number of the line of `mode` in a text that has a header
+unfoldable pub mode_at : List ℕ → ℕ
+mode_at text = last_line (header 1 (lines text))
 
 -- the event of a line, of at most 20,000; so many stand before it. A line that is passed over has none.
 abbrev pub event_in : ℕ → ℕ → ℕ → List ℕ → Result (Option Event) SchedWhy

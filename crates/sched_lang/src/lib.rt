@@ -7,7 +7,7 @@ mod reading;
 mod schedule;
 mod words;
 
-pub use reading::{accepted_schedules_are_ready, read};
+pub use reading::{accepted_schedules_are_ready, read, read_with_mode};
 pub use schedule::{Events, SchedEnd, SchedWhy, Schedule};
 
 #[cfg(test)]

@@ -2,7 +2,7 @@
 ghost use Rattle.std.specs.Prelude.{◌≡◌, ℕ, List, ◌+◌, ◌≤◌, ◌<◌, ◌++◌, length, Ok, IfOk, IfSome};
 ghost use Rattle.sched_lang.specs.Words.{lines};
 ghost use Rattle.sched_lang.specs.Ready.{IsReady};
-ghost use Rattle.sched_lang.specs.Reading.{Gives, at_line, next_line, header, event_in, events_from, schedule_of};
+ghost use Rattle.sched_lang.specs.Reading.{Gives, at_line, next_line, header, event_in, events_from, mode_at, schedule_of};
 
 use crate::event::event;
 use crate::header::{Header, chain, first, lease, mode, ratio, switches};
@@ -53,6 +53,7 @@ fn header(text: &[u8]) -> Result<(Header, u64, &[u8]), SchedEnd>
     requires { length text.now ≤ 4194304 }
     ensures value { Gives (λ x. (x.0, x.1, lines x.2.now)) result (header 1 (lines text.now)) }
     ensures within { IfOk result (λ x. x.1 + length x.2.now ≤ 1 + length text.now) }
+    ensures some { IfOk result (λ x. 1 ≤ x.1) }
 {
     let (n, line, rest) = next_line(1, text)?;
     at_line(n, first(line))?;
@@ -121,10 +122,11 @@ fn events(alloc: Global, header: &Header, number: u64, text: &[u8]) -> Result<Ev
     Ok(events)
 }
 
-// Reads a schedule.
-#[tactic(auto, unfolding(crate::specs::Reading::schedule_of))]
-fn schedule(alloc: Global, b: &[u8]) -> Result<Schedule, SchedEnd>
-    ensures { Gives (λ s. s) result (schedule_of b.now) }
+// Reads a schedule, and gives beside it the number of the line of `mode`.
+#[tactic(auto, unfolding(crate::specs::Reading::schedule_of, crate::specs::Reading::mode_at))]
+fn schedule(alloc: Global, b: &[u8]) -> Result<(Schedule, u64), SchedEnd>
+    ensures exact { Gives (λ x. x.0) result (schedule_of b.now) }
+    ensures mode { IfOk result (λ x. x.1 ≡ mode_at b.now) }
 {
     if b.len() > 4_194_304 {
         return Err(SchedEnd::Refused {
@@ -134,7 +136,7 @@ fn schedule(alloc: Global, b: &[u8]) -> Result<Schedule, SchedEnd>
     }
     let (header, number, rest) = header(b)?;
     let events = events(alloc, &header, number, rest)?;
-    Ok(Schedule {
+    let schedule = Schedule {
         switches: header.switches,
         chain: header.chain,
         t_switch: header.t_switch,
@@ -142,7 +144,21 @@ fn schedule(alloc: Global, b: &[u8]) -> Result<Schedule, SchedEnd>
         ratio: header.ratio,
         snapshot: header.snapshot,
         events,
-    })
+    };
+    Ok((schedule, number - 1))
+}
+
+/// Reads a schedule as `read` does, and gives beside it the number of the line of `mode`: there a schedule is refused that is well
+/// formed and can't be run.
+///
+/// # Errors
+/// Those of `read`.
+pub fn read_with_mode(alloc: Global, b: &[u8]) -> Result<(Schedule, u64), SchedEnd>
+    ensures exact { Gives (λ x. x.0) result (schedule_of b.now) }
+    ensures mode { IfOk result (λ x. x.1 ≡ mode_at b.now) }
+    ensures ready { IfOk result (λ x. IsReady x.0) }
+{
+    schedule(alloc, b)
 }
 
 /// Reads a schedule: a text of lines, of which empty ones and those that begin with `#` are passed over. The header comes first.
@@ -153,7 +169,8 @@ pub fn read(alloc: Global, b: &[u8]) -> Result<Schedule, SchedEnd>
     ensures exact { Gives (λ s. s) result (schedule_of b.now) }
     ensures ready { IfOk result IsReady }
 {
-    schedule(alloc, b)
+    let (schedule, _) = read_with_mode(alloc, b)?;
+    Ok(schedule)
 }
 
 /// Each schedule that is accepted is ready to run: nodes, terms and a bound in their ranges, terms that hold, and at most 20,000
