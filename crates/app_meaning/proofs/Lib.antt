@@ -8,4 +8,5 @@ pub mod Cells
 pub mod Kept
 pub mod Calls
 pub mod Tails
+pub mod Outcomes
 pub mod Promises

@@ -1,5 +1,5 @@
 -- The meaning of programs.
-use Rattle.std.specs.Prelude.{ℕ, ◌+◌, ◌%◌, ◌^◌, List, [], ◌∷◌, ◌++◌, map, fold, length, Option, Some, None, if◌then◌else◌, nat_lt, ◌||◌, codes}
+use Rattle.std.specs.Prelude.{ℕ, ◌+◌, ◌%◌, ◌^◌, List, [], ◌∷◌, ◌++◌, map, fold, length, Option, Some, None, if◌then◌else◌, nat_lt, ◌==◌, ◌||◌, codes}
 use Rattle.rp_base.specs.declared.node.Packet.{Packet}
 use Rattle.rp_base.specs.declared.node.Output.{Output}
 use Rattle.p4_ast.specs.declared.name.P4Name.{P4Name}
@@ -287,6 +287,10 @@ plain p cells packet = let o = outcome p 0 cells packet in (o.delta, o.output)
 abbrev pub key : P4Program → Packet → Option (List ℕ)
 key p packet = (outcome p 0 (zeros (cell_count p)) packet).key
 
+-- a run over a list of another length than a flow's is none: it does nothing
+abbrev pub sized : ℕ → (List ℕ → Packet → Delta × Option Output) → List ℕ → Packet → Delta × Option Output
+sized n run cells packet = if length cells == n then run cells packet else ([], None)
+
 -- a program as an application
 abbrev pub application : P4Program → Application
-application p = record { cell_count = cell_count p; key_of = key p; plain = plain p }
+application p = record { cell_count = cell_count p; key_of = key p; plain = sized (cell_count p) (plain p) }

@@ -4,6 +4,7 @@ use Rattle.p4_ast.specs.declared.program.P4Program.{P4Program}
 use Rattle.p4_check.specs.declared.end.CheckEnd.{CheckEnd}
 use Rattle.p4_check.specs.declared.end.CheckEnd.TheVariants as end
 use Rattle.p4_check.specs.Programs.{bad_tree, checked, cells_of}
+use Rattle.p4_check.specs.Rewriting.{rewritten}
 
 -- A checked program: its tree with the width of each literal, how many cells it has, and whether it is a rewritten one.
 pub record CheckedProgram : Type 0 where
@@ -14,6 +15,10 @@ pub record CheckedProgram : Type 0 where
 -- the tree and the number of cells of an accepted program
 abbrev pub IsSource : P4Program → ℕ → Type 0
 IsSource tree cells = (p : P4Program) × (bad_tree p ≡ None) × (tree ≡ checked p) × (cells ≡ cells_of p)
+
+-- what an accepted program's tree is rewritten to, and the number of its cells
+abbrev pub IsRewritten : P4Program → ℕ → Type 0
+IsRewritten tree cells = (p : P4Program) × (bad_tree p ≡ None) × (tree ≡ rewritten (checked p)) × (cells ≡ cells_of p)
 
 -- An accepted program's checked form, or the place and the cause; want of memory has none.
 abbrev pub Checks : Result CheckedProgram CheckEnd → P4Program → Type 0

@@ -1,3 +1,4 @@
 pub mod Parsers
 pub mod Programs
+pub mod Rewriting
 pub mod Checking

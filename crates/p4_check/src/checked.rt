@@ -1,6 +1,6 @@
 //! Checked programs.
-ghost use Rattle.std.specs.Prelude.{◌≡◌, IfOk, false};
-ghost use Rattle.p4_check.specs.Checking.{Checks, IsSource};
+ghost use Rattle.std.specs.Prelude.{◌≡◌, IfOk, true, false};
+ghost use Rattle.p4_check.specs.Checking.{Checks, IsSource, IsRewritten};
 
 use crate::end::CheckEnd;
 use crate::program::{program, with_parts};
@@ -11,7 +11,8 @@ use sqlite_items::Boxed;
 use std::alloc::Global;
 use std::marker::Model;
 
-/// A program that was checked: each literal of its tree has the width of its place. Only a check makes one.
+/// A program that was checked: each literal of its tree has the width of its place. Only a check makes one, and only the tree that such
+/// a program is rewritten to makes a rewritten one.
 #[derive(Drop)]
 pub struct Checked {
     tree: P4Program,
@@ -20,8 +21,8 @@ pub struct Checked {
 }
 
 impl Model for Checked {
-    ghost use Rattle.std.specs.Prelude.{◌≡◌, false};
-    ghost use Rattle.p4_check.specs.Checking.{CheckedProgram, IsSource};
+    ghost use Rattle.std.specs.Prelude.{◌≡◌, true, false};
+    ghost use Rattle.p4_check.specs.Checking.{CheckedProgram, IsSource, IsRewritten};
     ghost use Rattle.p4_ast.specs.contracts.expression.P4Expr as expr;
     ghost use Rattle.p4_ast.specs.contracts.statement.P4Stmt as stmt;
     ghost use Rattle.p4_ast.specs.contracts.statement.P4Block as block;
@@ -34,10 +35,22 @@ impl Model for Checked {
 
     ghost view = { λ c. record { tree = c.tree; cells = c.cells; rewritten = c.rewritten } };
 
-    ghost invariant = { λ c. c.rewritten ≡ false → IsSource c.tree c.cells };
+    ghost invariant = { λ c. (c.rewritten ≡ false → IsSource c.tree c.cells) × (c.rewritten ≡ true → IsRewritten c.tree c.cells) };
 }
 
 impl Checked {
+    /// The rewritten form of a program that was checked: the tree that it is rewritten to, and the number of its cells.
+    pub fn rewritten(tree: P4Program, cells: u16) -> Checked
+        requires { IsRewritten tree cells }
+        ensures { result ≡ record { tree = tree; cells = cells; rewritten = true } }
+    {
+        Checked {
+            tree,
+            cells,
+            rewritten: true,
+        }
+    }
+
     /// Whether it is a rewritten program. Otherwise it is a source.
     pub fn is_rewritten(&self) -> bool
         ensures { result ≡ self.now.rewritten }
@@ -49,6 +62,7 @@ impl Checked {
     pub fn tree(&self) -> &P4Program
         ensures value { result.now ≡ self.now.tree }
         ensures source { self.now.rewritten ≡ false → IsSource self.now.tree self.now.cells }
+        ensures rewritten { self.now.rewritten ≡ true → IsRewritten self.now.tree self.now.cells }
     {
         &self.tree
     }

@@ -1,2 +1,2 @@
-mod Equations
+pub mod Equations
 mod Cuts

@@ -1,0 +1,12 @@
+pub mod Rewrites
+pub mod Lifted
+pub mod LiftedValues
+pub mod Pieces
+pub mod Cells
+pub mod Simulated
+pub mod Tails
+pub mod Controls
+pub mod Parsed
+pub mod Declared
+pub mod Law
+pub mod Same
