@@ -4,18 +4,9 @@ use Rattle.std.specs.Prelude.{OnSome, if◌then◌else◌}
 use Rattle.rp_base.specs.declared.error.NoMemory.{NoMemory}
 use Rattle.rp_base.specs.declared.node.Output.{Output}
 use Rattle.rp_base.specs.declared.node.Packet.{Packet}
-use Rattle.rp_app.specs.Application.{Application, Delta, IsApplication}
-use Rattle.rp_app.proofs.Deltas.{each_below}
+use Rattle.rp_app.specs.Application.{Application}
 use Rattle.key_table.specs.Table.{Key, Table, get, put, same_key}
 use Rattle.plain_run.specs.Plain.{HaveCells, PlainFlow, flow_or_new, flow_turn, keyed}
-
--- a packet writes cells that there are
-pub delta_within : (app : Application) → IsApplication app → (cells : List ℕ) (p : Packet) (delta : Delta) (out : Option Output) → length cells ≡ app.cell_count → (delta, out) ≡ app.plain cells p →
-    All (λ (d : ℕ × ℕ). d.0 < length cells) delta
-delta_within app keeps cells p delta out many is =
-    let all : All (λ (d : ℕ × ℕ). d.0 < app.cell_count) (app.plain cells p).0 = each_below app.cell_count (app.plain cells p).0 (keeps.cells cells p many) in
-    let wrote : (app.plain cells p).0 ≡ delta = sym (ap (λ (x : Delta × Option Output). x.0) is) in
-    subst (λ n. All (λ (d : ℕ × ℕ). d.0 < n) delta) (sym many) (subst (All (λ (d : ℕ × ℕ). d.0 < app.cell_count)) wrote all)
 
 pub have_put : (n : ℕ) (t : Table PlainFlow) (k : Key) (f : PlainFlow) → HaveCells n t → length f.cells ≡ n → HaveCells n (put t k f)
 have_put n [] k f h many = (many, tt)

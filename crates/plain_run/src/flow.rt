@@ -3,7 +3,8 @@ ghost use Rattle.std.specs.Prelude.{◌≡◌, [], length, IfOk};
 ghost use Rattle.rp_app.specs.Application.{zeros};
 ghost use Rattle.plain_run.specs.Plain.{flow_turn};
 
-use rp_app::{App, Delta};
+use crate::app::PlainApp;
+use rp_app::Delta;
 use rp_base::{Cells, Marks, NoMemory, Output, Packet};
 use std::alloc::Global;
 use std::marker::Model;
@@ -41,7 +42,7 @@ impl Flow {
     ///
     /// # Errors
     /// `NoMemory`; then nothing is said of the flow but that it has as many cells.
-    pub(crate) fn process<A: App>(
+    pub(crate) fn process<A: PlainApp>(
         &mut self,
         alloc: Global,
         app: &A,

@@ -3,23 +3,24 @@ ghost use Rattle.std.specs.Prelude.{◌≡◌, ◌<◌, ◌++◌, ◌∷◌, [],
 ghost use Rattle.rp_app.specs.Application.{zeros};
 ghost use Rattle.plain_run.specs.Plain.{begun, end_lines, fed, flow_lines, keyed, plain_step, released, taken};
 
+use crate::app::PlainApp;
 use crate::flow::Flow;
 use key_table::KeyTable;
-use rp_app::{App, Delta};
+use rp_app::Delta;
 use rp_base::{Cells, Event, Key, Line, Lines, NoMemory, Output, Packet};
 use std::alloc::Global;
 use std::marker::Model;
 
 /// A switch that never fails, with its application.
 #[derive(Drop)]
-pub struct PlainSwitch<A: App> {
+pub struct PlainSwitch<A: PlainApp> {
     app: A,
     event: u64,
     flows: KeyTable<Flow>,
     alloc: Global,
 }
 
-impl<A: App> Model for PlainSwitch<A> {
+impl<A: PlainApp> Model for PlainSwitch<A> {
     ghost use Rattle.plain_run.specs.Running.{PlainRun};
     ghost use Rattle.plain_run.specs.Plain.{HaveCells};
 
@@ -65,7 +66,7 @@ fn lines_of(alloc: Global, event: u64, out: Option<Output>) -> Result<Lines, NoM
     Ok(lines)
 }
 
-impl<A: App> PlainSwitch<A> {
+impl<A: PlainApp> PlainSwitch<A> {
     /// The switch before its first event. Takes no memory.
     pub fn new(alloc: Global, app: A) -> PlainSwitch<A>
         ensures { result ≡ record { app = app; switch = begun } }

@@ -38,8 +38,11 @@ fn control_of<'a>(p: &P4Program, n: u16, scopes: &'a Scopes) -> Scope<'a>
     scopes.control()
 }
 
-// A packet's run in these scopes.
-fn run_in(
+/// A packet's run of a program in its scopes, over the cells of its flow; `held` is 1 where the switch holds the flow's lease.
+///
+/// # Errors
+/// `NoMemory`.
+pub fn run_in(
     alloc: Global,
     p: &P4Program,
     scopes: &Scopes,
@@ -79,23 +82,4 @@ fn run_in(
         key: run.key,
         output,
     })
-}
-
-/// A packet's run of a program, over the cells of its flow; `held` is 1 where the switch holds the flow's lease.
-///
-/// # Errors
-/// `NoMemory`.
-pub fn run(
-    alloc: Global,
-    p: &P4Program,
-    held: u128,
-    cells: Cells,
-    packet: &Packet,
-) -> Result<Ended, NoMemory>
-    requires few { cell_count p.now ≤ 256 }
-    requires all { length cells ≤ 256 }
-    ensures { IfOk result (λ e. e ≡ ended (outcome p.now held cells packet.now)) }
-{
-    let scopes = Scopes::of(alloc, p, cells.len() as u16)?;
-    run_in(alloc, p, &scopes, held, cells, packet)
 }
