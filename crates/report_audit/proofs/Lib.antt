@@ -1,0 +1,10 @@
+pub mod Parts
+pub mod Halves
+pub mod Folds
+pub mod Noting
+pub mod Placing
+pub mod Deciding
+pub mod Once
+pub mod Turns
+pub mod Verdicts
+pub mod FeedsInOrder
