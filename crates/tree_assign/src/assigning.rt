@@ -13,8 +13,8 @@ use sqlite_items::{Boxed, Items};
 use tree_eval::{eval, high_bit, low_bit, slot_of, slot_of_name, type_width, value_in};
 use value_ops::{cut, with_slice};
 
-// A number in place of the whole value, or of some of its bits.
-fn assigned(old: Value, slice: Option<P4Slice>, n: u128) -> Value
+/// A number in place of the whole value, or of some of its bits.
+pub fn assigned(old: Value, slice: Option<P4Slice>, n: u128) -> Value
     ensures { result ≡ assigned old slice n }
 {
     match slice {

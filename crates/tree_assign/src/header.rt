@@ -14,7 +14,7 @@ use value_ops::{cut, truth};
 
 /// The number of the slot of the header whose field a path is; a path of a field has three names.
 #[tactic(auto, using(crate::proofs::Zeroed::header_is, crate::proofs::Zeroed::header_none))]
-pub(crate) fn header_of(sc: Scope<'_>, names: &[P4Name]) -> Option<usize>
+pub fn header_of(sc: Scope<'_>, names: &[P4Name]) -> Option<usize>
     ensures { result ≡ header_of (seen sc.entry) (map text names.now) }
 {
     if names.len() != 3 {
@@ -24,7 +24,7 @@ pub(crate) fn header_of(sc: Scope<'_>, names: &[P4Name]) -> Option<usize>
 }
 
 /// Whether a header isn't valid, where it is one.
-pub(crate) fn is_invalid(values: &[Value], header: Option<usize>) -> bool
+pub fn is_invalid(values: &[Value], header: Option<usize>) -> bool
     ensures { result ≡ is_invalid values.now header }
 {
     match header {
@@ -58,13 +58,13 @@ pub fn field_count(sc: Scope<'_>, header: usize) -> u64
     }
 }
 
-// The fields of a header are made 0, and its bit is `valid`.
+/// The fields of a header are made 0, so many, and its bit is `valid`; nothing where there is no such slot.
 #[tactic(auto, using(crate::proofs::Zeroed::renewed_past))]
-fn renew(sc: Scope<'_>, header: usize, valid: bool, values: &mut Items<Value>)
-    ensures { values.new ≡ set (zeroed (field_count (seen sc.entry) header) (suc header) values.old) header (truth valid) }
+pub fn renew(fields: u64, header: usize, valid: bool, values: &mut Items<Value>)
+    ensures { values.new ≡ set (zeroed fields (suc header) values.old) header (truth valid) }
 {
     if header < values.len() {
-        zero_from(field_count(sc, header), header + 1, values);
+        zero_from(fields, header + 1, values);
         put(values, header, truth(valid));
     }
 }
@@ -75,10 +75,10 @@ pub fn validate(sc: Scope<'_>, v: P4Validity, header: Option<usize>, values: &mu
 {
     if let Some(h) = header {
         match v {
-            P4Validity::SetInvalid => renew(sc, h, false, values),
+            P4Validity::SetInvalid => renew(field_count(sc, h), h, false, values),
             P4Validity::SetValid => {
                 if value_in(values.as_slice(), h).number != 1 {
-                    renew(sc, h, true, values);
+                    renew(field_count(sc, h), h, true, values);
                 }
             }
         }

@@ -5,6 +5,6 @@ mod assigning;
 mod header;
 mod slots;
 
-pub use assigning::{assign, declare};
-pub use header::{field_count, validate};
-pub use slots::set_slot;
+pub use assigning::{assign, assigned, declare};
+pub use header::{field_count, header_of, is_invalid, renew, validate};
+pub use slots::{put, set_slot};

@@ -7,7 +7,7 @@ use sqlite_items::Items;
 
 /// A value in the slot of this number; nothing where there is no such slot.
 #[tactic(auto, using(crate::proofs::Zeroed::put_past))]
-pub(crate) fn put(values: &mut Items<Value>, i: usize, v: Value)
+pub fn put(values: &mut Items<Value>, i: usize, v: Value)
     ensures { values.new ≡ set values.old i v }
 {
     if i < values.len() {

@@ -3,7 +3,7 @@ ghost use Rattle.std.specs.Prelude.{◌≡◌, ◌<◌, ◌≤◌, ◌+◌, IfSo
 ghost use Rattle.app_meaning.specs.Statements.{member, cell_of, cell_number, store};
 ghost use Rattle.tree_cells.specs.Fit.{IsWithin};
 
-use app_data::{Register, Run};
+use app_data::Run;
 use rp_base::{Cells, NoMemory};
 
 /// The number of the cell that a member of an array is, if there is one.
@@ -20,15 +20,15 @@ pub fn member(first: u64, size: u128, i: u128) -> Option<u16>
 }
 
 /// The number of a cell, if there is one: of an array the member at the index.
-pub fn cell_of(g: &Register, index: Option<u128>) -> Option<u16>
-    requires { IsWithin g.now.first g.now.size }
-    ensures { result ≡ cell_of g.now.first g.now.size index }
+pub fn cell_of(first: u64, size: Option<u128>, index: Option<u128>) -> Option<u16>
+    requires { IsWithin first size }
+    ensures { result ≡ cell_of first size index }
 {
-    match g.size {
-        None => Some(g.first as u16),
+    match size {
+        None => Some(first as u16),
         Some(size) => match index {
             None => None,
-            Some(i) => member(g.first, size, i),
+            Some(i) => member(first, size, i),
         },
     }
 }

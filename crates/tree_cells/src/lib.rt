@@ -5,5 +5,6 @@ mod cell;
 mod key;
 mod statement;
 
+pub use cell::{cell_number, cell_of, member, store};
 pub use key::set_key;
-pub use statement::{read, write};
+pub use statement::{low, read, word, write};

@@ -32,16 +32,16 @@ fn read_width(sc: Scope<'_>, g: &Register, t: &Option<Boxed<P4Type>>) -> u8
     }
 }
 
-// The lowest bits of a number.
+/// The lowest bits of a number.
 #[tactic(auto, using(crate::proofs::Cells::low_is))]
-fn low(n: u64, width: u8) -> u64
+pub fn low(n: u64, width: u8) -> u64
     ensures { result ≡ n % 2 ^ width }
 {
     if width < 64 { n % (1u64 << width) } else { n }
 }
 
-// The number that a cell holds of a number.
-fn word(n: u128) -> u64
+/// The number that a cell holds of a number.
+pub fn word(n: u128) -> u64
     ensures { result ≡ n % 2 ^ 64 }
 {
     (n % 0x1_0000_0000_0000_0000) as u64
@@ -54,7 +54,7 @@ pub fn read(sc: Scope<'_>, r: &P4Read, run: &mut Run)
 {
     if let Some(g) = named_register(sc.registers, r.name.text.as_slice()) {
         let index = optional_number(&r.expr, sc, run.values.as_slice());
-        let n = cell_number(&run.cells, cell_of(g, index));
+        let n = cell_number(&run.cells, cell_of(g.first, g.size, index));
         let width = read_width(sc, g, &r.type_);
         assign(sc, &r.left, low(n, width) as u128, &mut run.values);
     }

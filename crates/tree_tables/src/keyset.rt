@@ -29,8 +29,8 @@ fn fixed(sc: Scope<'_>, e: &P4Expr) -> Value
     eval(e, constants_only(sc), &[])
 }
 
-// What a member of a keyset asks of its key.
-fn one_match(sc: Scope<'_>, o: &P4One) -> Match
+/// What a member of a keyset asks of its key.
+pub fn one_match(sc: Scope<'_>, o: &P4One) -> Match
     ensures { result ≡ one_match (seen sc.entry) o.now }
 {
     match o {

@@ -4,4 +4,5 @@
 mod keyset;
 mod winner;
 
+pub use keyset::one_match;
 pub use winner::{chosen, lpm_place, won};

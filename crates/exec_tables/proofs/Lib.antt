@@ -1,0 +1,3 @@
+pub mod Tying
+pub mod Growing
+pub mod Prepared

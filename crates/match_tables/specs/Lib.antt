@@ -1,0 +1,4 @@
+pub mod Winning
+pub mod Placing
+pub mod Standing
+pub mod Ordered
