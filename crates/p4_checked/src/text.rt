@@ -1,6 +1,6 @@
 //! Texts of programs: parsed, and then checked.
-ghost use Rattle.p4_parse.specs.Parsing.{parsed};
-ghost use Rattle.p4_checked.specs.Reading.{ChecksText, bad_text, AnswersBad};
+ghost use Rattle.std.specs.Prelude.{IfOk};
+ghost use Rattle.p4_checked.specs.Reading.{GivesChecked, IsChecked, checked_of};
 
 use p4_check::{CheckEnd, Checked, check};
 use p4_parse::{ParseEnd, parse};
@@ -11,8 +11,8 @@ use std::alloc::Global;
 /// # Errors
 /// `Refused` with the place and the cause of the text's first fault, or of the program's where the text has a tree; `NoMemory`.
 pub fn checked_text(alloc: Global, text: &[u8]) -> Result<Checked, CheckEnd>
-    ensures checked { ChecksText result (parsed text.now) }
-    ensures bad { AnswersBad result (bad_text text.now) }
+    ensures exact { GivesChecked result (checked_of text.now) }
+    ensures source { IfOk result IsChecked }
 {
     match parse(alloc, text) {
         Ok(tree) => check(alloc, tree),

@@ -1,4 +1,1 @@
-pub mod Reports
-pub mod Top
-pub mod Seen
 pub mod Telling

@@ -4,8 +4,8 @@ use Rattle.rp_base.specs.declared.refused.Why.{Why}
 use Rattle.rp_base.specs.declared.refused.Why.TheVariants as cause
 use Rattle.sched_lang.specs.declared.schedule.SchedWhy.{SchedWhy}
 use Rattle.sched_lang.specs.declared.schedule.SchedWhy.TheVariants as why
-use Rattle.rp_cli.specs.declared.status.Status.{Status}
-use Rattle.rp_cli.specs.declared.status.Status.TheVariants as status
+use Rattle.run_core.specs.declared.status.Status.{Status}
+use Rattle.run_core.specs.declared.status.Status.TheVariants as status
 
 -- the name of the cause for which a program is refused
 abbrev pub cause_text : Why → List ℕ

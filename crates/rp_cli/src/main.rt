@@ -1,23 +1,24 @@
 //! The program: runs a schedule and writes its report.
 #![tactic(auto)]
 
-ghost use Rattle.std.specs.Prelude.{◌≡◌, IfSome, drop};
+ghost use Rattle.std.specs.Prelude.{◌≡◌, None, IfSome, drop};
 ghost use Rattle.rp_base.specs.Outside.{Rose};
-ghost use Rattle.rp_cli.specs.Top.{form_of, asked, outcome, Answers, IsAnswerTo, IsBoundedAfter, IsLegalAfter};
+ghost use Rattle.run_core.specs.Commands.{form_of};
+ghost use Rattle.run_core.specs.Outcomes.{outcome};
+ghost use Rattle.run_core.specs.Answers.{Answers, IsAnswerTo};
+ghost use Rattle.run_core.specs.Runs.{asked, WroteBounded, WroteLegal};
 
-mod running;
 mod status;
-mod top;
 
 use host_io::{
     CommandLine, FileInputs, ProcessCommandLine, SystemClock, UdpLink, WriterSink, words_of,
 };
 use rp_base::{Clock, Inputs, Link, Sink};
-use status::{Status, tell};
+use run_core::{Status, rp_main};
+use status::{exit_code, tell};
 use std::alloc::Global;
 use std::io;
 use std::process::ExitCode;
-use top::rp_main;
 
 // Runs what a command line asks for: the words behind the program's name.
 fn run<A: CommandLine, I: Inputs, K: Sink, L: Link, C: Clock>(
@@ -35,9 +36,9 @@ fn run<A: CommandLine, I: Inputs, K: Sink, L: Link, C: Clock>(
     ensures told { IfSome (A.words line.now) (λ words. IfSome (I.contents inputs.old) (λ contents.
         Answers result (outcome (drop 1 words) contents) (K.written out.old) (K.written out.new))) }
     ensures legal { IfSome (A.words line.now) (λ words. IfSome (I.contents inputs.old) (λ contents.
-        IsLegalAfter result (asked (drop 1 words) contents) (K.written out.old) (K.written out.new))) }
+        IfSome (asked (drop 1 words) contents) (λ run. run.schedule.snapshot ≡ None → WroteLegal result run (K.written out.old) (K.written out.new)))) }
     ensures bounded { IfSome (A.words line.now) (λ words. IfSome (I.contents inputs.old) (λ contents.
-        IsBoundedAfter result (asked (drop 1 words) contents) (K.written out.old) (K.written out.new))) }
+        IfSome (asked (drop 1 words) contents) (λ run. IfSome run.schedule.snapshot (λ _. WroteBounded result run (K.written out.old) (K.written out.new))))) }
 
     ensures input { result ≡ Status.InputFault → Rose (I.faults inputs.old) (I.faults inputs.new) }
     ensures output { result ≡ Status.OutputFault → Rose (K.faults out.old) (K.faults out.new) }
@@ -60,7 +61,7 @@ fn main(rt: HostRuntime) -> ExitCode {
     let status = run(alloc, &line, &mut inputs, &mut out, &mut link, &mut clock);
     // Standard error has nowhere to report its own failure to: the status stands.
     let _ = tell(status, &mut rt.stderr());
-    status.exit_code()
+    exit_code(status)
 }
 
 #[cfg(test)]

@@ -1,58 +1,22 @@
-//! How the program ends: its exit status, and its line on standard error.
+//! How the program ended, as a process tells it: its exit status, and its line on standard error.
 ghost use Rattle.std.specs.Prelude.{◌≡◌, Some, OnOk};
 ghost use Rattle.std.specs.Io.KnownBytes.{Appends};
+ghost use Rattle.std.specs.Process.{exit_status};
+ghost use Rattle.run_core.specs.Answers.{number_of};
 ghost use Rattle.rp_cli.specs.Telling.{cause_text, status_line, status_text, why_text};
 
 use rp_base::Why;
+use run_core::Status;
 use sched_lang::SchedWhy;
 use std::io::Write;
 use std::process::ExitCode;
 use std::{fmt, io};
 
-/// How the program ends.
-#[derive(Clone, Copy, Debug, PartialEq, Eq)]
-pub enum Status {
-    /// All is written.
-    Done,
-    /// The words have no form, or ask for a program: programs don't run yet.
-    Usage,
-    /// The least place at which the program fails, the offset of a byte from 0, and the first cause there.
-    ProgramRefused { at: u64, why: Why },
-    /// The first line of the schedule that fails, from 1, and why. The whole text has line 0.
-    ScheduleRefused { line: u64, why: SchedWhy },
-    /// The inputs have counted a fault.
-    InputFault,
-    /// The sink has counted a fault.
-    OutputFault,
-    /// Memory ran out.
-    NoMemory,
-}
-
-impl Status {
-    ghost use Rattle.std.specs.Process.{exit_status};
-    ghost use Rattle.rp_cli.specs.Top.{number_of};
-
-    /// The exit status: 0 to 6.
-    pub fn number(&self) -> u8
-        ensures { result ≡ number_of self.now }
-    {
-        match self {
-            Status::Done => 0,
-            Status::Usage => 1,
-            Status::ProgramRefused { .. } => 2,
-            Status::ScheduleRefused { .. } => 3,
-            Status::InputFault => 4,
-            Status::OutputFault => 5,
-            Status::NoMemory => 6,
-        }
-    }
-
-    /// What the process ends with.
-    pub fn exit_code(&self) -> ExitCode
-        ensures { exit_status result ≡ number_of self.now }
-    {
-        ExitCode::from(self.number())
-    }
+/// What the process ends with.
+pub fn exit_code(status: Status) -> ExitCode
+    ensures { exit_status result ≡ number_of status }
+{
+    ExitCode::from(status.number())
 }
 
 // The name of the cause for which a program is refused.
@@ -97,11 +61,15 @@ fn why_name(why: SchedWhy) -> &'static str
     }
 }
 
-impl fmt::Display for Status {
-    ghost output = { λ status. Some (status_text status) };
+// How the program ended, in words.
+#[derive(Drop)]
+struct Told(Status);
+
+impl fmt::Display for Told {
+    ghost output = { λ told. Some (status_text told.0) };
 
     fn fmt<W: fmt::Write>(&self, f: &mut fmt::Formatter<W>) -> fmt::Result {
-        match *self {
+        match self.0 {
             Status::Done => f.write_str("done"),
             Status::Usage => f.write_str("usage"),
             Status::ProgramRefused { at, why } => {
@@ -128,6 +96,9 @@ pub fn tell<W: Write>(status: Status, to: &mut W) -> io::Result<()>
 {
     match status {
         Status::Done => Ok(()),
-        _ => writeln!(to, "rp: {status}"),
+        _ => {
+            let told = Told(status);
+            writeln!(to, "rp: {told}")
+        }
     }
 }

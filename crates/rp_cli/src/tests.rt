@@ -1,10 +1,10 @@
-use crate::status::{Status, tell};
-use crate::top::rp_main;
+use crate::status::tell;
 use host_io::FileInputs;
 use rp_base::{
     Bytes, Content, Kept, ListClock, MemInputs, MemSink, NoMemory, Post, SureInputs, SureLink,
     SureSink, Why, Words,
 };
+use run_core::{Status, rp_main};
 use sched_lang::SchedWhy;
 use std::alloc::Global;
 use std::test::Fail;
@@ -12,6 +12,9 @@ use std::{env, fs, process};
 
 const HEADER: &[u8] =
     b"rp-schedule 1\nswitches 1\nchain 1\nlease 1000 1100\nratio 50\nmode strict\n";
+
+const SNAPSHOT_HEADER: &[u8] =
+    b"rp-schedule 1\nswitches 1\nchain 1\nlease 1000 1100\nratio 50\nmode snapshot 100\n";
 
 const ONE_PACKET: &[u8] = b"feed 7 6121\nnext\nnext\nnext\nnext\n";
 
@@ -198,10 +201,16 @@ fn refusals_write_nothing(rt: HostRuntime) -> Result<(), Fail> {
         line: 1,
         why: SchedWhy::Form,
     };
-    let rows: [(&[u8], &[u8], &[u8], Status); 10] = [
+    let mode = Status::ScheduleRefused {
+        line: 6,
+        why: SchedWhy::Mode,
+    };
+    let rows: [(&[u8], &[u8], &[u8], Status); 12] = [
         (b"", HEADER, ONE_PACKET, Status::Usage),
         (b"run @count", HEADER, ONE_PACKET, Status::Usage),
-        (b"run app x", HEADER, ONE_PACKET, Status::Usage),
+        (b"plain app x --frames", HEADER, ONE_PACKET, Status::Usage),
+        (b"plain @count", HEADER, ONE_PACKET, Status::Usage),
+        (b"plain @count x", SNAPSHOT_HEADER, ONE_PACKET, mode),
         (b"run x x", HEADER, ONE_PACKET, NO_PROGRAM),
         (b"run @count x x", HEADER, ONE_PACKET, Status::Usage),
         (b"run @count --frames x", HEADER, ONE_PACKET, Status::Usage),
@@ -282,7 +291,7 @@ fn programs_are_refused_first(rt: HostRuntime) -> Result<(), Fail> {
 fn faults_end_the_run(rt: HostRuntime) -> Result<(), Fail> {
     let alloc = rt.alloc();
     // the words, the call at which the sink fails, what comes of it, and how many contents were asked for
-    let rows: [(&[u8], u64, Status, &[u8], u64); 8] = [
+    let rows: [(&[u8], u64, Status, &[u8], u64); 9] = [
         (b"run @count x", 9, Status::Done, ONE_PACKET_REPORT, 1),
         (
             b"run @count x",
@@ -296,7 +305,20 @@ fn faults_end_the_run(rt: HostRuntime) -> Result<(), Fail> {
         (b"run app nofile", 9, Status::InputFault, b"", 2),
         (b"run x nofile", 9, NO_PROGRAM, b"", 1),
         (b"run nofile nofile", 9, Status::InputFault, b"", 1),
-        (b"run app x", 9, Status::Usage, b"", 2),
+        (
+            b"run app x",
+            9,
+            Status::Done,
+            b"release 5 1 7 0021\nserial 61 1\ncells 61 1\nend\n",
+            2,
+        ),
+        (
+            b"plain app x",
+            9,
+            Status::Done,
+            b"release 1 1 7 0021\nserial 61 1\ncells 61 1\nend\n",
+            2,
+        ),
     ];
     for (line, call, wanted, text, asked) in rows {
         let (status, written, calls) = faultily(alloc, line, &[DECLARED, COUNTS, DEPARSED], call)?;

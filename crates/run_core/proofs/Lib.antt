@@ -1,0 +1,4 @@
+pub mod Runs
+pub mod Loaded
+pub mod Ready
+pub mod Endings
