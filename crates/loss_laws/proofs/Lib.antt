@@ -5,3 +5,4 @@ pub mod RecentRun
 pub mod EpochsTold
 pub mod EpochRanges
 pub mod LinesBounded
+pub mod OwnRules

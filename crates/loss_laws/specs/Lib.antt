@@ -1,3 +1,5 @@
 pub mod BoundedLines
+pub mod ChangedRules
 pub mod NeededPremises
+pub mod NeededRules
 pub mod WorkedLines

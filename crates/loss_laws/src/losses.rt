@@ -6,11 +6,13 @@ ghost use Rattle.rp_base.specs.declared.event.Event.{Event};
 ghost use Rattle.rp_app.specs.Application.{Application, counting};
 ghost use Rattle.proto_data.specs.declared.terms.Mode.{Mode};
 ghost use Rattle.proto_model.specs.Loss.{IsBounded};
-ghost use Rattle.proto_model.specs.World.{Setup, opened};
+ghost use Rattle.proto_model.specs.World.{Setup, World, opened};
 ghost use Rattle.proto_model.specs.WorldStep.{world_after};
 ghost use Rattle.proto_safety.specs.LossLaws.{AgesStand, LossesBounded};
 ghost use Rattle.proto_safety.specs.NeededPremises.{unmarked};
+ghost use Rattle.loss_laws.specs.ChangedRules.{own_rules, world_by};
 ghost use Rattle.loss_laws.specs.NeededPremises.{boundless_run, early_run, strict_run, unmarked_run};
+ghost use Rattle.loss_laws.specs.NeededRules.{ack_run, chunk_run, forgetful_run, late_run};
 
 /// In snapshot mode, with terms by which a lease has ended at its switch before the store gives the flow to another: the age that
 /// a leased slot goes by covers each update of its epoch that no done round has, and isn't later than the clock; of two updates of
@@ -39,4 +41,19 @@ pub fn premises_are_needed()
     ensures bound { IsBounded counting 0 boundless_run → ⊥ }
     ensures terms { IsBounded counting 100 early_run → ⊥ }
     ensures application { IsBounded unmarked 100 unmarked_run → ⊥ }
+{}
+
+/// With the rules of the model, runs by rules are the model's own: the definitions that leave four rules open share all else.
+pub fn own_rules_are_the_model()
+    ensures { (app : Application) (w : World) (events : List Event) → world_by own_rules app w events ≡ world_after app w events }
+{}
+
+/// Each of these rules is needed. Where no age is left once a round is done, an update after the round's begin is lost that is
+/// twice the bound before the last one; where the bound itself lets a packet in, one that is as much before it as the bound; where a
+/// chunk is of the cells as they are now, or a round's items are counted at its Ack, the committed cells aren't those after the kept items.
+pub fn rules_are_needed()
+    ensures ages { IsBounded counting 100 forgetful_run → ⊥ }
+    ensures bound { IsBounded counting 100 late_run → ⊥ }
+    ensures chunks { IsBounded counting 100 chunk_run → ⊥ }
+    ensures counts { IsBounded counting 100 ack_run → ⊥ }
 {}
