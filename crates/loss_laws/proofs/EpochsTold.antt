@@ -1,10 +1,11 @@
 -- In snapshot mode a report's lines tell the committed flows with their epochs, and no line of a run tells any.
-use Rattle.std.proofs.Common.{◌≡◌, ◌≢◌, ℕ, ◌+◌, List, [], ◌∷◌, ◌++◌, map, refl, sym, ◌∙◌, ap, subst, true, false, Bool, append-nil, append_assoc, inl, inr}
+use Rattle.std.proofs.Common.{◌≡◌, fold, ◌≢◌, ℕ, ◌+◌, List, [], ◌∷◌, ◌++◌, map, refl, sym, ◌∙◌, ap, subst, true, false, Bool, append-nil, append_assoc, inl, inr}
 use Rattle.std.specs.Prelude.{flat_map, if◌then◌else◌}
 use Rattle.std.proofs.lemmas.Grind.{flat_map-append}
 use Rattle.std.proofs.lemmas.List.Concat.{flat_map-cons}
 use Rattle.std.proofs.lemmas.List.Elements.{filter-append}
 use Rattle.rp_base.specs.declared.event.Event.{Event}
+use Rattle.rp_base.specs.declared.event.Refusal.{Refusal}
 use Rattle.rp_base.specs.declared.node.Node.{Node}
 use Rattle.proto_data.specs.declared.message.Body.{Body}
 use Rattle.proto_data.specs.declared.message.Input.{Input}
@@ -21,14 +22,17 @@ use Rattle.proto_model.specs.EndLines.{item_lines, end_lines, report}
 use Rattle.proto_model.specs.Feeds.{Each}
 use Rattle.proto_model.specs.Kept.{EpochLine, epoch_lines, kept, marks_in}
 use Rattle.proto_model.specs.Lines.{Line, Release, Dropped, LostLine, Refused, Stranger, Send, Serial, Epoch, CellsLine, End, send_lines, without_sends, printed_line, printed}
+use Rattle.proto_model.specs.Pumping.{Received, Pumped, linked_event, linked_run}
 use Rattle.proto_model.specs.World.{World, Setup, opened}
 use Rattle.proto_model.specs.WorldStep.{Act, Refuses, Feeds, Delivers, Passes, Advances, Alarms, Stops, Boots, Detects, Announces, Pumps, act_of, announcements, next_event, node_takes, perform_act, run, run_on, world_after, world_step}
 use Rattle.proto_safety.specs.Books.{In}
+use Rattle.proto_safety.specs.LegalLines.{linked_report}
 use Rattle.proto_safety.proofs.Basics.Eachs.{each_append, each_map, filter_all}
 use Rattle.proto_safety.proofs.Basics.TableKeys.{KeysDiffer}
 use Rattle.proto_safety.proofs.Legality.LegalNow.{records_differ}
 use Rattle.proto_safety.proofs.Legality.LinesTold.{each_node_takes}
-use Rattle.proto_safety.proofs.Time.ClockSums.{same_terms}
+use Rattle.proto_safety.proofs.Link.LinkedKept.{PumpKeeps, acted_by, linked_kept, pump_kept}
+use Rattle.proto_safety.proofs.Time.ClockSums.{same_terms, terms_kept}
 use Rattle.loss_laws.specs.BoundedLines.{cells_in, committed_epochs, epoch_flows, epoch_in, flow_with, own_epochs}
 
 -- ---- lines that tell nothing of flows
@@ -216,3 +220,34 @@ module _ (kind : Body → ℕ) (spelled : Msg → List ℕ) where
   report_told app setup bound mode events frames =
       told_flows app (run app setup events).0 bound (if frames then (run app setup events).1 else without_sends (run app setup events).1) (ap (λ (t : Terms). t.mode) (same_terms app setup events) ∙ mode)
       (plain_seen frames (run app setup events).1 (plain_run app (opened app.cell_count setup) events))
+
+  -- ---- over a link
+
+  plain_pump : (app : Application) → PumpKeeps app (λ (p : Pumped). Each (Plain kind spelled) p.lines)
+  plain_pump app =
+      record {
+        takes = λ p xs h. h;
+        begins = λ p h. h;
+        stranger = λ p node h. each_append (Plain kind spelled) p.lines (Stranger p.world.event node ∷ []) h ((refl, refl), tt);
+        full = λ p h. each_append (Plain kind spelled) p.lines (Refused p.world.event Refusal.FramesFull ∷ []) h ((refl, refl), tt);
+        hands = λ p i m at up h.
+            each_append (Plain kind spelled) p.lines (node_takes app (frame_passed p.world i) m.to (Input.Msg m)).1 h (plain_node app (frame_passed p.world i) m.to (Input.Msg m));
+      }
+
+  plain_linked : (app : Application) (es : List Event) (p : Pumped) → Each (Plain kind spelled) p.lines → Each (Plain kind spelled) (fold (linked_event spelled app) p es).lines
+  plain_linked app [] p h = h
+  plain_linked app (e ∷ es) p h =
+      let w : World = next_event p.world in
+      plain_linked app es (linked_event spelled app p e)
+      (acted_by spelled app (λ (q : Pumped). Each (Plain kind spelled) q.lines) (record p { world = next_event p.world }) (act_of app (next_event p.world) e)
+      (λ is. pump_kept spelled app (λ (q : Pumped). Each (Plain kind spelled) q.lines) (plain_pump app) (record p { world = next_event p.world }) h)
+      (each_append (Plain kind spelled) p.lines (perform_act app (next_event p.world) (act_of app (next_event p.world) e)).1 h (plain_act app (next_event p.world) (act_of app (next_event p.world) e))))
+
+  pub linked_told : (app : Application) (setup : Setup) (bound : ℕ) → setup.terms.mode ≡ Mode.Snapshot bound → (events : List Event) (received : List Received) (frames : Bool) →
+      epoch_flows (printed kind spelled (linked_report spelled frames app setup events received)) ≡
+      map (committed_epochs (linked_run spelled app setup events received).world) (committed_records app.cell_count (linked_run spelled app setup events received).world)
+  linked_told app setup bound mode events received frames =
+      let p = linked_run spelled app setup events received in
+      let terms : (linked_run spelled app setup events received).world.terms ≡ setup.terms = linked_kept spelled app (λ (w : World). w.terms ≡ setup.terms) (terms_kept app setup.terms) setup events received refl in
+      told_flows app p.world bound (if frames then p.lines else without_sends p.lines) (ap (λ (t : Terms). t.mode) terms ∙ mode)
+      (plain_seen frames p.lines (plain_linked app events (record { world = opened app.cell_count setup; lines = []; rest = received; ended = false }) tt))

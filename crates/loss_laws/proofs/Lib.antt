@@ -2,6 +2,7 @@ pub mod Behind
 pub mod Bounded
 pub mod RecentStep
 pub mod RecentRun
+pub mod LossKept
 pub mod EpochsTold
 pub mod EpochRanges
 pub mod LinesBounded

@@ -8,6 +8,7 @@ use Rattle.rp_base.specs.Clocks.{TermsHold}
 use Rattle.rp_base.specs.declared.event.Event.{Event}
 use Rattle.rp_base.specs.declared.legality.Fed.{Fed}
 use Rattle.rp_base.specs.declared.legality.Released.{Released}
+use Rattle.rp_base.specs.declared.line.Line.{Line}
 use Rattle.proto_data.specs.declared.message.Body.{Body}
 use Rattle.proto_data.specs.declared.message.Entry.{Entry}
 use Rattle.proto_data.specs.declared.message.Msg.{Msg}
@@ -22,33 +23,37 @@ use Rattle.proto_model.specs.Feeds.{Each, Pairwise, key_at, packets_at}
 use Rattle.proto_model.specs.Kept.{EpochLine, base, epoch_lines, kept, kept_marks, marks_in}
 use Rattle.proto_model.specs.Legal.{IsOutputIn, ReleasedBefore}
 use Rattle.proto_model.specs.Lines.{printed}
+use Rattle.proto_model.specs.Pumping.{Received, linked_run}
 use Rattle.proto_model.specs.Loss.{ItemAt}
 use Rattle.proto_model.specs.World.{World, Setup, Journaled, opened}
 use Rattle.proto_model.specs.WorldStep.{world_after}
 use Rattle.proto_safety.specs.Books.{In, committed_of}
 use Rattle.proto_safety.specs.EpochOrder.{EpochsRise}
+use Rattle.proto_safety.specs.LegalLines.{feeds_in, linked_report, releases_in}
 use Rattle.proto_safety.specs.Flows.{FitsFrom, FlowRecord, flow_in, flow_of}
 use Rattle.proto_safety.specs.LossLaws.{HistoryStands, ReleasedBy, keyless, by_item}
 use Rattle.proto_safety.proofs.Basics.Eachs.{each_all, each_mapped}
 use Rattle.proto_safety.proofs.Basics.Lists.{length_map}
 use Rattle.proto_safety.proofs.Basics.Members.{in_flat_parts, in_map, to_filter, to_map}
-use Rattle.proto_safety.proofs.Basics.Pairs.{pairwise_flat, pairwise_mapped, pairwise_unmapped, pairwise_with}
+use Rattle.proto_safety.proofs.Basics.Pairs.{pairwise_flat, pairwise_mapped, pairwise_with}
 use Rattle.proto_safety.proofs.Basics.TableKeys.{KeysDiffer, member_found}
 use Rattle.proto_safety.proofs.Legality.LegalNow.{epochs_same, records_differ}
+use Rattle.proto_safety.proofs.Inductions.Induction.{run_kept}
 use Rattle.proto_safety.proofs.Legality.ReleasedLate as late
 use Rattle.proto_safety.proofs.Legality.ReportLegal.{report_feeds, report_releases}
-use Rattle.proto_safety.proofs.Packets.MarksStand.{released_once}
+use Rattle.proto_safety.proofs.Link.LinkedKept.{linked_kept}
+use Rattle.proto_safety.proofs.Link.LinkedTold.{linked_feeds, linked_releases}
 use Rattle.proto_safety.proofs.Serial.CellsGround.{known, items_known}
 use Rattle.proto_safety.proofs.Serial.SerialLists.{closes}
-use Rattle.proto_safety.proofs.Snapshots.LossRun.{histories_stand, showing_after}
 use Rattle.proto_safety.proofs.Snapshots.SnapRun.{Celled, snap_facts}
 use Rattle.proto_safety.proofs.Snapshots.SnapShown.{Shows}
 use Rattle.proto_safety.proofs.Snapshots.WorldSnaps.{SnapFacts}
 use Rattle.proto_safety.proofs.Store.EpochsCount as count
 use Rattle.proto_safety.proofs.Store.FlowBooks.{book_flow}
-use Rattle.loss_laws.specs.BoundedLines.{BoundedFlows, BoundedLines, EpochFlow, FromEpochs, OutputOf, cells_along, committed_epochs, kept_told, marks_told}
+use Rattle.loss_laws.specs.BoundedLines.{BoundedFlows, BoundedLines, EpochFlow, epoch_flows, FromEpochs, OutputOf, cells_along, committed_epochs, kept_told, marks_told}
 use Rattle.loss_laws.proofs.EpochRanges.{along_append, at_map, base_along, flat_map_map, found_member, pairwise_places, place_of, range_last, range_rises, range_split, range_within, to_filter_map}
-use Rattle.loss_laws.proofs.EpochsTold.{report_told}
+use Rattle.loss_laws.proofs.EpochsTold.{linked_told, report_told}
+use Rattle.loss_laws.proofs.LossKept.{Losing, history_of, losing_kept, opened_losing, released_apart}
 
 module _ (app : Application) (bound : ℕ) (w : World) (c : Celled app bound w) (s : Shows app w) (h : HistoryStands app w) (counts : (key : Key) → EpochsRise key (committed_book w)) where
   abbrev f : SnapFacts app bound w
@@ -243,10 +248,22 @@ same_loss : (app : Application) {a b : List Fed} {p q : List Released} {x y : Li
 same_loss app {a} {b} {p} {q} {x} {y} feeds releases flows h =
     subst (λ l. BoundedFlows app l p x) (sym feeds) (subst (λ l. BoundedFlows app b l x) (sym releases) (subst (λ l. BoundedFlows app b q l) (sym flows) h))
 
-pub reports_lose : (kind : Body → ℕ) (spelled : Msg → List ℕ) (app : Application) → IsApplication app → (setup : Setup) (bound : ℕ) → setup.terms.mode ≡ Mode.Snapshot bound → TermsHold setup.terms.t_switch setup.terms.t_store setup.terms.ratio →
-    (events : List Event) (frames : Bool) → BoundedLines app events (printed kind spelled (report frames app setup events))
-reports_lose kind spelled app is setup bound mode hold events frames =
-    let w = showing_after app is setup bound mode hold events in
-    same_loss app (report_feeds kind spelled app setup events frames) (report_releases kind spelled app setup events frames) (report_told kind spelled app setup bound mode events frames)
-    (bounded_flows app bound (world_after app (opened app.cell_count setup) events) w.0.0 w.1 (histories_stand app is setup bound mode hold events) (λ key. count.committed_counts app setup events key)
-    (pairwise_unmapped (λ a b. a ≢ b) (λ (r : Released). r.output.mark) _ (released_once app is setup events)) (λ m. late.none_early app is setup events m))
+-- lines that say the feeds, releases and flows of a world lose boundedly where what its losses rest on holds
+said_boundedly : (app : Application) (is : IsApplication app) (bound : ℕ) (events : List Event) (lines : List Line) (w : World) → Losing app is bound w → ((key : Key) → EpochsRise key (committed_book w)) →
+    feeds_in events lines ≡ w.history.fed → releases_in lines ≡ w.history.released → epoch_flows lines ≡ map (committed_epochs w) (committed_records app.cell_count w) → BoundedLines app events lines
+said_boundedly app is bound events lines w h counts feeds releases flows =
+    same_loss app feeds releases flows (bounded_flows app bound w h.1.0.0.0 h.1.0.1 (history_of app is bound w h) counts (released_apart app is bound w h) (λ m. late.none_early_in w h.1.1.1 m))
+
+module _ (kind : Body → ℕ) (spelled : Msg → List ℕ) (app : Application) (is : IsApplication app) (setup : Setup) (bound : ℕ) (mode : setup.terms.mode ≡ Mode.Snapshot bound) (hold : TermsHold setup.terms.t_switch setup.terms.t_store setup.terms.ratio) where
+  pub reports_lose : (events : List Event) (frames : Bool) → BoundedLines app events (printed kind spelled (report frames app setup events))
+  reports_lose events frames =
+      let start : World = opened app.cell_count setup in
+      said_boundedly app is bound events (printed kind spelled (report frames app setup events)) (world_after app (opened app.cell_count setup) events)
+      (run_kept app (Losing app is bound) (losing_kept app is bound) events start (opened_losing app is bound setup mode hold)) (λ key. count.committed_counts app setup events key)
+      (report_feeds kind spelled app setup events frames) (report_releases kind spelled app setup events frames) (report_told kind spelled app setup bound mode events frames)
+
+  pub linked_reports_lose : (events : List Event) (received : List Received) (frames : Bool) → BoundedLines app events (printed kind spelled (linked_report spelled frames app setup events received))
+  linked_reports_lose events received frames =
+      said_boundedly app is bound events (printed kind spelled (linked_report spelled frames app setup events received)) (linked_run spelled app setup events received).world
+      (linked_kept spelled app (Losing app is bound) (losing_kept app is bound) setup events received (opened_losing app is bound setup mode hold)) (λ key. count.linked_committed_counts spelled app setup events received key)
+      (linked_feeds spelled app kind setup events received frames) (linked_releases spelled app kind setup events received frames) (linked_told kind spelled app setup bound mode events received frames)

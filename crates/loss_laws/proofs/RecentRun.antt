@@ -18,7 +18,7 @@ use Rattle.proto_model.specs.SwitchRows.{switch_step}
 use Rattle.proto_model.specs.World.{World, Setup, Journaled, RoundBegun, opened}
 use Rattle.proto_model.specs.WorldStep.{world_after, advanced, stopped}
 use Rattle.rp_base.specs.declared.node.Node.{Node}
-use Rattle.proto_safety.specs.LossLaws.{AgesStand, HistoryStands, LossesBounded, Recent, items_behind, kept_round, round_at}
+use Rattle.proto_safety.specs.LossLaws.{AgesStand, HistoryStands, Recent, items_behind, kept_round, round_at}
 use Rattle.proto_safety.proofs.Basics.Eachs.{each_all}
 use Rattle.proto_safety.proofs.Basics.Members.{among_in}
 use Rattle.proto_safety.proofs.Basics.TableKeys.{member_found}
@@ -26,7 +26,6 @@ use Rattle.proto_safety.proofs.Inductions.Induction.{Comes, Keeps, KeepsGiven, k
 use Rattle.proto_safety.proofs.Legality.LegalNow.{records_differ}
 use Rattle.proto_safety.proofs.Nodes.SwitchTable.{no_message}
 use Rattle.proto_safety.proofs.Snapshots.AgesRun.{AgesHold, ages_kept, ages_after}
-use Rattle.proto_safety.proofs.Snapshots.LossRun.{histories_stand}
 use Rattle.proto_safety.proofs.Snapshots.SnapRun.{Celled, celled_kept, celled_after, cells_of_snaps, snap_facts}
 use Rattle.proto_safety.proofs.Store.BooksStep.{moved_committed}
 use Rattle.proto_safety.proofs.Store.WorldBooks.{known_input, advanced_committed, stopped_grows}
@@ -35,7 +34,7 @@ use Rattle.loss_laws.proofs.Bounded.{recent_last}
 use Rattle.loss_laws.proofs.RecentStep.{Recents, later_end, step_recent}
 
 -- cells, with ages
-abbrev Aged : Application → ℕ → World → Type 0
+abbrev pub Aged : Application → ℕ → World → Type 0
 Aged app bound w = Celled app bound w × AgesHold w
 
 aged_kept : (app : Application) (bound : ℕ) → Keeps app (Aged app bound)
@@ -83,11 +82,18 @@ recents_kept app bound =
       announces = λ w i h. h;
     }
 
+pub recent_kept : (app : Application) (bound : ℕ) → Keeps app (λ w. Aged app bound w × Recents bound w)
+recent_kept app bound = keeps_both app (Aged app bound) (Recents bound) (aged_kept app bound) (recents_kept app bound)
+
+-- the ages of leased slots, of one world
+pub ages_stand_at : (bound : ℕ) (w : World) → AgesHold w → Recents bound w → AgesStand bound w
+ages_stand_at bound w ages recent =
+    record { slots = λ n epoch key node slot l. ages n node l.slot_is.at key slot epoch l.slot_is.found l.leased; recent = recent }
+
 module _ (app : Application) (setup : Setup) (bound : ℕ) (mode : setup.terms.mode ≡ Mode.Snapshot bound) (hold : TermsHold setup.terms.t_switch setup.terms.t_store setup.terms.ratio) where
-  recents_after : (events : List Event) → Recents bound (world_after app (opened app.cell_count setup) events)
-  recents_after events =
-      (run_kept app (λ w. Aged app bound w × Recents bound w) (keeps_both app (Aged app bound) (Recents bound) (aged_kept app bound) (recents_kept app bound)) events (opened app.cell_count setup)
-      ((celled_after app setup bound mode hold [], ages_after app setup bound mode hold []), λ e key. none_at key e (closing (opened app.cell_count setup) key e))).1
+  pub opened_recent : Aged app bound (opened app.cell_count setup) × Recents bound (opened app.cell_count setup)
+  opened_recent =
+      ((celled_after app setup bound mode hold [], ages_after app setup bound mode hold []), λ e key. none_at key e (closing (opened app.cell_count setup) key e))
     where
       none_at : (key : Key) (e : ℕ) (o : Option ℕ) → Recent bound (items_behind key e [] (kept_round key e [] o))
       none_at key e None = tt
@@ -95,10 +101,8 @@ module _ (app : Application) (setup : Setup) (bound : ℕ) (mode : setup.terms.m
 
   pub ages_are : (events : List Event) → AgesStand bound (world_after app (opened app.cell_count setup) events)
   ages_are events =
-      record {
-        slots = λ n epoch key node slot l. ages_after app setup bound mode hold events n node l.slot_is.at key slot epoch l.slot_is.found l.leased;
-        recent = recents_after events;
-      }
+      let h = run_kept app (λ w. Aged app bound w × Recents bound w) (recent_kept app bound) events (opened app.cell_count setup) opened_recent in
+      ages_stand_at bound (world_after app (opened app.cell_count setup) events) h.0.1 h.1
 
 -- ---- bounded losses
 
@@ -134,7 +138,3 @@ module _ (app : Application) (bound : ℕ) (some : 1 ≤ bound) (w : World) (h :
         order = h.order;
         keyless = h.keyless;
       }
-
-pub losses_bounded : (app : Application) (setup : Setup) (bound : ℕ) → LossesBounded app setup bound
-losses_bounded app setup bound is mode some hold events =
-    bounded_now app bound some (world_after app (opened app.cell_count setup) events) (histories_stand app is setup bound mode hold events) (ages_are app setup bound mode hold events)

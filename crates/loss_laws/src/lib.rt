@@ -3,5 +3,6 @@
 //! Each law is the contract of a function that does nothing, as in `proto_safety`, on whose inductions these rest.
 #![tactic(auto)]
 
+pub mod linked;
 pub mod losses;
 pub mod told;

@@ -1,4 +1,4 @@
-use Rattle.loss_laws.proofs.RecentRun.{losses_bounded}
+use Rattle.loss_laws.proofs.LossKept.{losses_bounded}
 use Rattle.loss_laws.proofs.losses.losses_are_bounded.Goals as goal
 
 pub returns : goal.returns
