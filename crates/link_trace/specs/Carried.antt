@@ -1,0 +1,41 @@
+-- What a carried run has written and told: all that it does outside, or a front of it.
+use Rattle.std.specs.Prelude.{ℕ, ◌≡◌, List, [], ◌∷◌, ◌++◌, Option, map}
+use Rattle.rp_base.specs.Outside.{Grows, GrowsByFront}
+use Rattle.rp_base.specs.declared.event.Event.{Event}
+use Rattle.rp_base.specs.declared.node.Node.{Node}
+use Rattle.rp_app.specs.Application.{Application}
+use Rattle.proto_data.specs.declared.message.Msg.{Msg}
+use Rattle.proto_model.specs.Lines.{Line}
+use Rattle.proto_model.specs.Pumping.{Received, linked_run}
+use Rattle.proto_model.specs.World.{Setup}
+use Rattle.link_trace.specs.Doings.{Doing, Says, Sends, Hears, all_did, answers_of, frames_of, lines_of}
+
+-- a frame as the link tells it: from its sender to its addressee, as the bytes that spell it
+abbrev pub datagram_of : (Msg → List ℕ) → Msg → Node × (Node × List ℕ)
+datagram_of spelled m = (m.from, (m.to, spelled m))
+
+-- All of a run was done over a link that gave these answers: its lines are written as this text, its frames went to the link each once
+-- and in order, and each answer was taken.
+pub record IsWhole (spelled : Msg → List ℕ) (text : List Line → List ℕ) (app : Application) (setup : Setup) (events : List Event) (got : List Received) (written : Option (List ℕ) × Option (List ℕ)) (sent : Option (List (Node × (Node × List ℕ))) × Option (List (Node × (Node × List ℕ)))) : Type 0 where
+  pub lines : Grows written.0 written.1 (text (lines_of (all_did spelled app setup events got)))
+  pub frames : Grows sent.0 sent.1 (map (datagram_of spelled) (linked_run spelled app setup events got).world.frames)
+  pub answers : (linked_run spelled app setup events got).rest ≡ []
+
+-- what comes next is a call of the link, or nothing
+abbrev pub CallsNext : List Doing → Type 0
+CallsNext [] = Unit {0}
+CallsNext (Says l ∷ ds) = ⊥
+CallsNext (Sends m ∷ ds) = Unit {0}
+CallsNext (Hears x ∷ ds) = Unit {0}
+
+-- A front of a run was done, up to a call of the link or to its end, had the link gone on to give more answers: the calls that answered are
+-- its first ones, and a front of its lines is written.
+pub record IsFront (spelled : Msg → List ℕ) (text : List Line → List ℕ) (app : Application) (setup : Setup) (events : List Event) (got : List Received) (written : Option (List ℕ) × Option (List ℕ)) (sent : Option (List (Node × (Node × List ℕ))) × Option (List (Node × (Node × List ℕ)))) : Type 0 where
+  pub more : List Received
+  pub front : List Doing
+  pub behind : List Doing
+  pub whole : all_did spelled app setup events (got ++ more) ≡ front ++ behind
+  pub next : CallsNext behind
+  pub lines : GrowsByFront written.0 written.1 (text (lines_of front))
+  pub frames : Grows sent.0 sent.1 (map (datagram_of spelled) (frames_of front))
+  pub answers : answers_of front ≡ got

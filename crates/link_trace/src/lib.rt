@@ -1,0 +1,36 @@
+//! What a run over a link does outside, in order, and that this is the run: its lines, its frames and the answers that it takes.
+//!
+//! Each law is the contract of a function that does nothing.
+#![tactic(auto)]
+
+ghost use Rattle.std.specs.Prelude.{◌≡◌, ◌≤◌, ◌++◌, List, ℕ, fold, length};
+ghost use Rattle.rp_base.specs.declared.event.Event.{Event};
+ghost use Rattle.rp_base.specs.declared.node.Node.{Node as NodeValue};
+ghost use Rattle.rp_app.specs.Application.{Application};
+ghost use Rattle.proto_data.specs.declared.message.Msg.{Msg};
+ghost use Rattle.proto_model.specs.Pumping.{Pumped, Received, linked_event, linked_run};
+ghost use Rattle.proto_model.specs.World.{Setup};
+ghost use Rattle.link_trace.specs.Doings.{answers_of, events_did, frames_of, lines_of, node_did, run_did};
+
+/// What is written, sent and received, event by event, are the lines of the run, all frames that it sent, each once and in order, and the
+/// answers that it took: what is left of the link's answers stands behind them.
+pub fn doings_are_the_run()
+    ensures lines { (spelled : Msg → List ℕ) (app : Application) (setup : Setup) (events : List Event) (received : List Received) →
+        lines_of (run_did spelled app setup events received) ≡ (linked_run spelled app setup events received).lines }
+    ensures frames { (spelled : Msg → List ℕ) (app : Application) (setup : Setup) (events : List Event) (received : List Received) →
+        frames_of (run_did spelled app setup events received) ≡ (linked_run spelled app setup events received).world.frames }
+    ensures answers { (spelled : Msg → List ℕ) (app : Application) (setup : Setup) (events : List Event) (received : List Received) →
+        received ≡ answers_of (run_did spelled app setup events received) ++ (linked_run spelled app setup events received).rest }
+{}
+
+/// More events do what they do from where the others end.
+pub fn doings_go_on()
+    ensures { (spelled : Msg → List ℕ) (app : Application) (es fs : List Event) (p : Pumped) →
+        events_did spelled app p (es ++ fs) ≡ events_did spelled app p es ++ events_did spelled app (fold (linked_event spelled app) p es) fs }
+{}
+
+/// A node that a pump may ask so many times gets at most as many answers: in a run, 64.
+pub fn nodes_are_asked_seldom()
+    ensures { (spelled : Msg → List ℕ) (app : Application) (node : NodeValue) (n : ℕ) (p : Pumped) →
+        length (answers_of (node_did spelled app node n p)) ≤ n }
+{}
