@@ -19,7 +19,7 @@ use Rattle.link_trace.specs.Doings.{Doing, Says, Sends, Hears, act_did, answer_d
 
 -- ---- parts of doings
 
-lines_append : (ds es : List Doing) → lines_of (ds ++ es) ≡ lines_of ds ++ lines_of es
+pub lines_append : (ds es : List Doing) → lines_of (ds ++ es) ≡ lines_of ds ++ lines_of es
 lines_append [] es = refl
 lines_append (Says l ∷ ds) es = ap (λ x. l ∷ x) (lines_append ds es)
 lines_append (Sends m ∷ ds) es = lines_append ds es
@@ -91,7 +91,7 @@ act_more app w (Detects Node.Master) = ([], sym (append-nil w.frames))
 act_more app w Announces = (announcements w, refl)
 act_more app w Pumps = ([], sym (append-nil w.frames))
 
-behind_all : (xs ys : List Msg) → drop (length xs) (xs ++ ys) ≡ ys
+pub behind_all : (xs ys : List Msg) → drop (length xs) (xs ++ ys) ≡ ys
 behind_all [] ys = refl
 behind_all (x ∷ xs) ys = behind_all xs ys
 

@@ -1,14 +1,24 @@
 -- What a carried run has written and told: all that it does outside, or a front of it.
-use Rattle.std.specs.Prelude.{ℕ, ◌≡◌, List, [], ◌∷◌, ◌++◌, Option, map}
+use Rattle.std.specs.Prelude.{ℕ, ◌≡◌, Bool, if◌then◌else◌, List, [], ◌∷◌, ◌++◌, Option, map}
 use Rattle.rp_base.specs.Outside.{Grows, GrowsByFront}
 use Rattle.rp_base.specs.declared.event.Event.{Event}
 use Rattle.rp_base.specs.declared.node.Node.{Node}
 use Rattle.rp_app.specs.Application.{Application}
 use Rattle.proto_data.specs.declared.message.Msg.{Msg}
-use Rattle.proto_model.specs.Lines.{Line}
+use Rattle.proto_model.specs.Lines.{Line, Send, without_sends}
 use Rattle.proto_model.specs.Pumping.{Received, linked_run}
 use Rattle.proto_model.specs.World.{Setup}
 use Rattle.link_trace.specs.Doings.{Doing, Says, Sends, Hears, all_did, answers_of, frames_of, lines_of}
+
+-- the lines that a report shows of these, with the frames that are sent or without them
+abbrev pub seen : Bool → List Line → List Line
+seen frames ls = if frames then ls else without_sends ls
+
+-- the messages whose frames these lines tell
+abbrev pub sends_of : List Line → List Msg
+sends_of [] = []
+sends_of (Send event frame from to kind m ∷ ls) = m ∷ sends_of ls
+sends_of (l ∷ ls) = sends_of ls
 
 -- a frame as the link tells it: from its sender to its addressee, as the bytes that spell it
 abbrev pub datagram_of : (Msg → List ℕ) → Msg → Node × (Node × List ℕ)

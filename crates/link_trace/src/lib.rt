@@ -3,14 +3,18 @@
 //! Each law is the contract of a function that does nothing.
 #![tactic(auto)]
 
-ghost use Rattle.std.specs.Prelude.{◌≡◌, ◌≤◌, ◌++◌, List, ℕ, fold, length};
+ghost use Rattle.std.specs.Prelude.{◌≡◌, ◌≤◌, ◌++◌, Bool, List, ℕ, drop, fold, length};
 ghost use Rattle.rp_base.specs.declared.event.Event.{Event};
 ghost use Rattle.rp_base.specs.declared.node.Node.{Node as NodeValue};
 ghost use Rattle.rp_app.specs.Application.{Application};
 ghost use Rattle.proto_data.specs.declared.message.Msg.{Msg};
+ghost use Rattle.proto_model.specs.Handing.{hand};
 ghost use Rattle.proto_model.specs.Pumping.{Pumped, Received, linked_event, linked_run};
-ghost use Rattle.proto_model.specs.World.{Setup};
-ghost use Rattle.link_trace.specs.Doings.{answers_of, events_did, frames_of, lines_of, node_did, run_did};
+ghost use Rattle.proto_model.specs.World.{Setup, World};
+ghost use Rattle.proto_model.specs.WorldStep.{world_step};
+ghost use Rattle.proto_safety.specs.LegalLines.{linked_report};
+ghost use Rattle.link_trace.specs.Carried.{seen, sends_of};
+ghost use Rattle.link_trace.specs.Doings.{all_did, answers_of, events_did, frames_of, lines_of, node_did, run_did};
 
 /// What is written, sent and received, event by event, are the lines of the run, all frames that it sent, each once and in order, and the
 /// answers that it took: what is left of the link's answers stands behind them.
@@ -33,4 +37,16 @@ pub fn doings_go_on()
 pub fn nodes_are_asked_seldom()
     ensures { (spelled : Msg → List ℕ) (app : Application) (node : NodeValue) (n : ℕ) (p : Pumped) →
         length (answers_of (node_did spelled app node n p)) ≤ n }
+{}
+
+/// What a whole run writes, with the lines at its end, is its report, with the frames that are sent or without them.
+pub fn lines_are_the_report()
+    ensures { (spelled : Msg → List ℕ) (app : Application) (setup : Setup) (events : List Event) (received : List Received) (frames : Bool) →
+        seen frames (lines_of (all_did spelled app setup events received)) ≡ linked_report spelled frames app setup events received }
+{}
+
+/// The lines of an event, and of a frame that is handed over, tell the frames that it sent, each once and in order.
+pub fn lines_tell_frames()
+    ensures events { (app : Application) (w : World) (e : Event) → sends_of (world_step app w e).1 ≡ drop (length w.frames) (world_step app w e).0.frames }
+    ensures hands { (app : Application) (w : World) (i : ℕ) → sends_of (hand app w i).1 ≡ drop (length w.frames) (hand app w i).0.frames }
 {}
