@@ -12,7 +12,7 @@ use Rattle.proto_model.specs.WorldStep.{Delivers}
 use Rattle.proto_safety.specs.Sizes.{SizedAt}
 use Rattle.proto_safety.proofs.Size.WorldSizes.{hand_sized}
 use Rattle.world_state.specs.declared.state.WorldState.{WorldState}
-use Rattle.world_state.specs.Frames.{IsSendable}
+use Rattle.sent_frames.specs.Frames.{IsSendable}
 use Rattle.world_state.specs.Steps.{Step, IsAble, goes, passes}
 use Rattle.run_history.specs.Shown.{shown_step}
 use Rattle.world_state.specs.WorldStates.{world_of, IsRun}

@@ -16,4 +16,3 @@ pub mod Told
 pub mod Opened
 pub mod LastRunning
 pub mod HandAfter
-pub mod FoundFrames

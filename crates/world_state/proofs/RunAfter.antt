@@ -1,5 +1,5 @@
 -- A world that is kept to before an event is kept to after it, and the event does what it means.
-use Rattle.std.proofs.Common.{◌≡◌, ℕ, zero, suc, ◌+◌, ◌<◌, ◌≤◌, List, [], ◌∷◌, ◌++◌, length, Option, Some, None, refl, ap, sym, ◌∙◌, Bool, true, false, arith, subst, All, take, Result, Ok, Err, IfOk, OnOk}
+use Rattle.std.proofs.Common.{◌≡◌, ℕ, zero, suc, ◌+◌, ◌<◌, ◌≤◌, List, [], ◌∷◌, ◌++◌, length, Option, Some, None, refl, ap, sym, ◌∙◌, Bool, true, false, arith, subst, Result, Ok, Err, IfOk, OnOk}
 use Rattle.std.specs.Prelude.{not, ◌&&◌, nat_lt}
 use Rattle.std.specs.List.{AllByRecursion}
 use Rattle.std.proofs.lemmas.List.Elements.{All-from_recursion, recursion_from_All}
@@ -16,7 +16,7 @@ use Rattle.proto_data.specs.declared.terms.Terms.{Terms}
 use Rattle.proto_model.specs.Feeds.{Each}
 use Rattle.proto_model.specs.Routing.{picked}
 use Rattle.proto_model.specs.World.{World, SwitchNode, believed_switches}
-use Rattle.proto_model.specs.WorldStep.{Act, Refuses, Feeds, Delivers, Passes, Advances, Alarms, Stops, Boots, Detects, Announces, Pumps, act_of, refuses_if, feed_at, feed_picked, event_packet, deliver_act, next_act, numbered_frame, next_from, runs_now, believed_up, frames_full, rates_hold, padded, next_event, perform_act, world_step}
+use Rattle.proto_model.specs.WorldStep.{Act, Feeds, Delivers, Passes, Advances, Alarms, Stops, Boots, Detects, Announces, Pumps, act_of, refuses_if, feed_picked, event_packet, deliver_act, next_act, numbered_frame, next_from, runs_now, believed_up, frames_full, rates_hold, padded, next_event, world_step}
 use Rattle.proto_safety.specs.Changes.{Fits}
 use Rattle.proto_safety.specs.Sizes.{EventSized, MsgSized, SizedAt, delta_room}
 use Rattle.proto_safety.proofs.Basics.Eachs.{each_append, each_take, each_weaker}
@@ -25,13 +25,13 @@ use Rattle.proto_safety.proofs.Inductions.Acts.{act_fits}
 use Rattle.proto_safety.proofs.Size.SizesFit.{msg_fits}
 use Rattle.proto_safety.proofs.Size.SizesUp.{msg_wider, msg_up}
 use Rattle.proto_safety.proofs.Size.WorldSizes.{event_sized_at}
-use Rattle.run_history.specs.Shown.{shown, shown_step, stepped}
+use Rattle.run_history.specs.Shown.{stepped}
 use Rattle.world_state.specs.declared.nodes.SwitchNode.{SwitchNode as SwitchSeat}
 use Rattle.world_state.specs.declared.nodes.ReplicaNode.{ReplicaNode as ReplicaSeat}
 use Rattle.world_state.specs.declared.state.WorldState.{WorldState}
 use Rattle.world_state.specs.declared.acts.Act.{Act as KeptAct}
 use Rattle.world_state.specs.Acts.{IsEventOf, meant}
-use Rattle.world_state.specs.Frames.{IsSendable}
+use Rattle.sent_frames.specs.Frames.{IsSendable}
 use Rattle.world_state.specs.Nodes.{IsSwitchSeat, IsReplicaSeat, replica_node, switch_nodes}
 use Rattle.world_state.specs.Steps.{Step, goes, IsAble, CanDo}
 use Rattle.world_state.specs.Turns.{CanTakeSwitch, CanTakeReplica}

@@ -9,7 +9,7 @@ use Rattle.world_state.specs.declared.nodes.SwitchNode.{SwitchNode as SwitchSeat
 use Rattle.world_state.specs.declared.nodes.ReplicaNode.{ReplicaNode as ReplicaSeat}
 use Rattle.world_state.specs.declared.state.WorldState.{WorldState}
 use Rattle.world_state.specs.declared.turns.Said.{Said}
-use Rattle.world_state.specs.Frames.{IsSendable}
+use Rattle.sent_frames.specs.Frames.{IsSendable}
 use Rattle.world_state.specs.Steps.{switch_goes, replica_goes}
 use Rattle.world_state.specs.Turns.{replica_turned, replicas_turned, switch_turned, switches_turned}
 

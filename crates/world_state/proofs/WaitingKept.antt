@@ -14,9 +14,10 @@ use Rattle.world_state.specs.declared.nodes.SwitchNode.{SwitchNode as SwitchSeat
 use Rattle.world_state.specs.declared.nodes.ReplicaNode.{ReplicaNode as ReplicaSeat}
 use Rattle.world_state.specs.declared.state.WorldState.{WorldState}
 use Rattle.world_state.specs.Passing.{is_passed}
-use Rattle.world_state.specs.Steps.{goes, node_goes, switch_goes, replica_goes, boots_at, stops, fed, passes, sends}
+use Rattle.world_state.specs.Steps.{goes, node_goes, switch_goes, replica_goes, boots_at, stops, fed, passes}
 use Rattle.world_state.specs.Turns.{replica_turned, switch_turned}
-use Rattle.world_state.specs.Waiting.{AreCursors, IsLeast, NoneTaken, NoneWaits, goes_to, node_of, waits}
+use Rattle.sent_frames.specs.Frames.{goes_to}
+use Rattle.world_state.specs.Waiting.{AreCursors, IsLeast, NoneTaken, NoneWaits, node_of, waits}
 use Rattle.world_state.specs.WorldStates.{world_of}
 use Rattle.world_state.proofs.PassedFrames.{or_true}
 

@@ -1,5 +1,3 @@
-pub mod Frames
-pub mod SentFrames
 pub mod Passing
 pub mod Waiting
 pub mod Nodes

@@ -1,20 +1,15 @@
 -- From where `next` looks for each node's first waiting frame.
-use Rattle.std.specs.Prelude.{ℕ, ◌≡◌, ◌≤◌, ◌<◌, ◌-◌, Bool, true, false, not, ◌&&◌, List, Option, Some, None, length, if◌then◌else◌, nat_lt, slice_get}
+use Rattle.std.specs.Prelude.{ℕ, ◌≡◌, ◌≤◌, ◌<◌, ◌-◌, Bool, true, false, not, ◌&&◌, List, Some, length, if◌then◌else◌, nat_lt, slice_get}
 use Rattle.rp_base.specs.declared.node.Node.{Node}
-use Rattle.rp_base.specs.Nodes.{same_node}
 use Rattle.proto_data.specs.declared.message.Msg.{Msg}
 use Rattle.proto_model.specs.World.{World}
 use Rattle.proto_model.specs.WorldStep.{is_next, runs_now}
+use Rattle.sent_frames.specs.Frames.{goes_to}
 use Rattle.world_state.specs.Passing.{is_passed}
 
 -- the node of a cursor: switches 0 to 7, then replicas from 0
 abbrev pub node_of : ℕ → Node
 node_of k = if nat_lt k 8 then Node.Switch k else Node.Replica (k - 8)
-
--- whether a frame, if there is one, goes to this node
-abbrev pub goes_to : Node → Option Msg → Bool
-goes_to to None = false
-goes_to to (Some m) = same_node m.to to
 
 -- whether the frame of this number waits for a node
 abbrev pub waits : List Msg → List ℕ → Node → ℕ → Bool

@@ -1,23 +1,11 @@
 -- A world as it is kept, and the world of the definitions that it stands for.
-use Rattle.std.specs.Prelude.{ℕ, ◌+◌, ◌≡◌, ◌≤◌, Bool, List, ◌++◌, ◌∷◌, [], Option, Some, None, length, map, set}
+use Rattle.std.specs.Prelude.{◌+◌, ◌≡◌, ◌≤◌, length}
 use Rattle.std.specs.List.{AllByRecursion}
-use Rattle.rp_base.specs.declared.line.Line.{Line as Shown}
 use Rattle.rp_app.specs.Application.{Application}
-use Rattle.proto_data.specs.declared.message.Msg.{Msg}
-use Rattle.proto_data.specs.declared.message.Input.{Input}
 use Rattle.proto_data.specs.declared.terms.Mode.{Mode}
-use Rattle.proto_model.specs.Effects.{added}
-use Rattle.proto_model.specs.ReplicaState.{StoreDid}
-use Rattle.proto_model.specs.SwitchState.{SwitchDid}
 use Rattle.proto_model.specs.World.{World}
-use Rattle.proto_model.specs.WorldStep.{WorldStep}
 use Rattle.proto_safety.specs.Sizes.{SizedAt}
-use Rattle.switch_core.specs.States.{turn}
-use Rattle.store_replica.specs.Stores.{stepped}
-use Rattle.world_state.specs.declared.nodes.SwitchNode.{SwitchNode as SwitchSeat}
-use Rattle.world_state.specs.declared.nodes.ReplicaNode.{ReplicaNode as ReplicaSeat}
 use Rattle.world_state.specs.declared.state.WorldState.{WorldState}
-use Rattle.world_state.specs.Frames.{IsSendable}
 use Rattle.world_state.specs.Waiting.{AreCursors}
 use Rattle.world_state.specs.Nodes.{switch_nodes, replica_nodes, IsSwitchSeat, IsReplicaSeat}
 

@@ -4,10 +4,10 @@ ghost use Rattle.proto_model.specs.WorldStep.{runs_now};
 ghost use Rattle.world_state.specs.Waiting.{AreCursors, NoneTaken, NoneWaits, node_of, waits};
 ghost use Rattle.world_state.specs.WorldStates.{world_of};
 
-use crate::frames::Frames;
 use crate::passing::Passed;
 use crate::state::WorldState;
 use rp_base::Node;
+use sent_frames::Frames;
 use std::marker::Model;
 
 /// How many nodes there may be: 8 switches and 5 replicas.

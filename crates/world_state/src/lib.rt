@@ -5,7 +5,6 @@ mod acts;
 mod announcements;
 mod contents;
 mod cursors;
-mod frames;
 mod hand;
 mod nodes;
 mod on;

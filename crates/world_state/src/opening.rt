@@ -8,7 +8,6 @@ ghost use Rattle.world_state.specs.Nodes.{IsReplicaSeat, begun_replica, begun_sw
 ghost use Rattle.world_state.specs.WorldStates.{IsRun, world_of};
 
 use crate::cursors::Cursors;
-use crate::frames::Frames;
 use crate::nodes::{ReplicaNode, Replicas, SwitchNode, Switches};
 use crate::passing::Passed;
 use crate::state::WorldState;
@@ -16,6 +15,7 @@ use proto_model::{Config, Terms};
 use reroute::Router;
 use rp_base::NoMemory;
 use run_history::History;
+use sent_frames::Frames;
 use std::alloc::Global;
 
 // So many switches before their first turns.

@@ -4,7 +4,7 @@ ghost use Rattle.std.specs.List.{AllByRecursion};
 ghost use Rattle.rp_base.specs.declared.node.Node.{Node as NodeValue};
 ghost use Rattle.proto_model.specs.WorldStep.{Announces, Delivers, Feeds};
 ghost use Rattle.world_state.specs.Acts.{meant};
-ghost use Rattle.world_state.specs.Frames.{IsSendable};
+ghost use Rattle.sent_frames.specs.Frames.{IsSendable};
 ghost use Rattle.world_state.specs.Steps.{IsAble, CanDo, node_goes, boots, detects, goes, later, passes, quiet, stops};
 
 use crate::acts::Act;

@@ -3,12 +3,12 @@ ghost use Rattle.std.specs.Prelude.{◌≡◌, [], ◌∷◌, ◌++◌, length, 
 ghost use Rattle.std.specs.List.{AllByRecursion};
 ghost use Rattle.proto_model.specs.Lines.{send_line, send_lines};
 ghost use Rattle.run_history.specs.Shown.{line_of, shown};
-ghost use Rattle.world_state.specs.Frames.{IsSendable};
+ghost use Rattle.sent_frames.specs.Frames.{IsSendable};
 
-use crate::frames::Frames;
 use proto_model::Msg;
 use rp_base::{Line, Lines, NoMemory};
 use rp_frame::kind_of;
+use sent_frames::Frames;
 
 /// A message is sent: its frame and its line come last.
 fn send_one(lines: &mut Lines, event: u64, frames: &mut Frames, m: &Msg) -> Result<(), NoMemory>

@@ -7,7 +7,6 @@ ghost use Rattle.world_state.specs.Waiting.{AreCursors};
 ghost use Rattle.world_state.specs.WorldStates.{world_of};
 
 use crate::cursors::Cursors;
-use crate::frames::Frames;
 use crate::nodes::{ReplicaNode, Replicas, Switches};
 use crate::passing::Passed;
 use proto_data::{FRAMES, MESSAGES};
@@ -15,6 +14,7 @@ use proto_model::{Msg, Terms};
 use reroute::Router;
 use rp_base::{NoMemory, Node};
 use run_history::History;
+use sent_frames::Frames;
 use std::alloc::Global;
 
 /// A world, without its application.

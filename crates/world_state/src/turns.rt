@@ -1,16 +1,16 @@
 //! A node takes an input: its step, and what the world notes of it.
 ghost use Rattle.std.specs.Prelude.{◌≡◌, slice_get, IfOk};
 ghost use Rattle.std.specs.List.{AllByRecursion};
-ghost use Rattle.world_state.specs.Frames.{IsSendable};
+ghost use Rattle.sent_frames.specs.Frames.{IsSendable};
 ghost use Rattle.world_state.specs.Turns.{CanTakeSwitch, CanTakeReplica, replica_turned, replicas_turned, switch_turned, switches_turned, told_switch, told_replica};
 
-use crate::frames::Frames;
 use crate::nodes::{ReplicaNode, Replicas, SwitchNode, Switches};
 use crate::sending::send;
 use proto_model::Input;
 use rp_app::App;
 use rp_base::{Lines, Lost, NoMemory};
 use run_history::{History, store_lines, switch_lines};
+use sent_frames::Frames;
 use std::alloc::Global;
 use store_replica::{Msgs, StoreDid};
 use switch_core::SwitchDid;

@@ -1,7 +1,7 @@
 use Rattle.std.proofs.Common.{◌∙◌, sym, subst}
 use Rattle.std.specs.List.{AllByRecursion}
 use Rattle.proto_model.specs.WorldStep.{announcements}
-use Rattle.world_state.specs.Frames.{IsSendable}
+use Rattle.sent_frames.specs.Frames.{IsSendable}
 use Rattle.world_state.specs.WorldStates.{world_of}
 use Rattle.world_state.proofs.Sendables.{sendable_behind}
 use Rattle.world_state.proofs.state.WorldState.announce.Goals as goal

@@ -1,7 +1,7 @@
 use Rattle.std.proofs.Common.{sym, subst}
 use Rattle.std.specs.List.{AllByRecursion}
 use Rattle.proto_model.specs.WorldStep.{Act}
-use Rattle.world_state.specs.Frames.{IsSendable}
+use Rattle.sent_frames.specs.Frames.{IsSendable}
 use Rattle.world_state.specs.Steps.{CanDo, goes}
 use Rattle.world_state.proofs.RunAfter.{counted, event_able, event_can, event_sendable, event_step, event_run, event_calls}
 use Rattle.world_state.proofs.state.WorldState.happens.Goals as goal

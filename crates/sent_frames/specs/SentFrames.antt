@@ -1,8 +1,8 @@
 -- Frames as they are kept: bytes, and the addressee that stands in them.
 use Rattle.std.specs.Prelude.{◌≡◌}
 use Rattle.proto_data.specs.declared.message.Msg.{Msg}
-use Rattle.world_state.specs.declared.frames.Sent.{Sent}
-use Rattle.world_state.specs.Frames.{IsFrame, message_of}
+use Rattle.sent_frames.specs.declared.frames.Sent.{Sent}
+use Rattle.sent_frames.specs.Frames.{IsFrame, message_of}
 
 -- the message of a frame
 abbrev pub sent_message : Sent → Msg

@@ -1,6 +1,7 @@
 -- Frames as bytes, and the messages that they spell.
-use Rattle.std.specs.Prelude.{ℕ, ◌≡◌, ◌≤◌, true, List, length, Result, Ok, Err}
+use Rattle.std.specs.Prelude.{ℕ, ◌≡◌, ◌≤◌, Bool, true, false, List, length, Option, Some, None, Result, Ok, Err}
 use Rattle.rp_base.specs.declared.node.Node.{Node}
+use Rattle.rp_base.specs.Nodes.{same_node}
 use Rattle.proto_data.specs.declared.message.Msg.{Msg}
 use Rattle.proto_data.specs.declared.message.Body.{Body}
 use Rattle.proto_data.specs.MessageFits.{message_fits}
@@ -26,3 +27,8 @@ pub record IsFrame (bytes : List ℕ) : Type 0 where
 pub record IsSendable (m : Msg) : Type 0 where
   pub fits : message_fits m ≡ true
   pub short : length (spelling m) ≤ 3700
+
+-- whether a message, if there is one, goes to this node
+abbrev pub goes_to : Node → Option Msg → Bool
+goes_to to None = false
+goes_to to (Some m) = same_node m.to to

@@ -1,0 +1,3 @@
+pub mod KeyedPlaces
+pub mod FirstFrames
+pub mod FoundFrames

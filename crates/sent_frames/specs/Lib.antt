@@ -1,0 +1,3 @@
+pub mod Frames
+pub mod SentFrames
+pub mod FirstFrames
