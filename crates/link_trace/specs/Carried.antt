@@ -20,13 +20,21 @@ sends_of [] = []
 sends_of (Send event frame from to kind m ∷ ls) = m ∷ sends_of ls
 sends_of (l ∷ ls) = sends_of ls
 
--- a frame as the link tells it: from its sender to its addressee, as the bytes that spell it
-abbrev pub datagram_of : (Msg → List ℕ) → Msg → Node × (Node × List ℕ)
+-- a datagram as the link tells it: its sender, its addressee and its bytes
+abbrev pub Datagram : Type 0
+Datagram = Node × (Node × List ℕ)
+
+-- what an object tells before a run and after it
+abbrev pub Told : Type 0 → Type 0
+Told A = Option (List A) × Option (List A)
+
+-- a frame as the link tells it
+abbrev pub datagram_of : (Msg → List ℕ) → Msg → Datagram
 datagram_of spelled m = (m.from, (m.to, spelled m))
 
 -- All of a run was done over a link that gave these answers: its lines are written as this text, its frames went to the link each once
 -- and in order, and each answer was taken.
-pub record IsWhole (spelled : Msg → List ℕ) (text : List Line → List ℕ) (app : Application) (setup : Setup) (events : List Event) (got : List Received) (written : Option (List ℕ) × Option (List ℕ)) (sent : Option (List (Node × (Node × List ℕ))) × Option (List (Node × (Node × List ℕ)))) : Type 0 where
+pub record IsWhole (spelled : Msg → List ℕ) (text : List Line → List ℕ) (app : Application) (setup : Setup) (events : List Event) (got : List Received) (written : Told ℕ) (sent : Told Datagram) : Type 0 where
   pub lines : Grows written.0 written.1 (text (lines_of (all_did spelled app setup events got)))
   pub frames : Grows sent.0 sent.1 (map (datagram_of spelled) (linked_run spelled app setup events got).world.frames)
   pub answers : (linked_run spelled app setup events got).rest ≡ []
@@ -39,13 +47,21 @@ CallsNext (Sends m ∷ ds) = Unit {0}
 CallsNext (Hears x ∷ ds) = Unit {0}
 
 -- A front of a run was done, up to a call of the link or to its end, had the link gone on to give more answers: the calls that answered are
--- its first ones, and a front of its lines is written.
-pub record IsFront (spelled : Msg → List ℕ) (text : List Line → List ℕ) (app : Application) (setup : Setup) (events : List Event) (got : List Received) (written : Option (List ℕ) × Option (List ℕ)) (sent : Option (List (Node × (Node × List ℕ))) × Option (List (Node × (Node × List ℕ)))) : Type 0 where
+-- its first ones, and of the text of its lines that much is written.
+pub record IsFront (Wrote : Option (List ℕ) → Option (List ℕ) → List ℕ → Type 0) (spelled : Msg → List ℕ) (text : List Line → List ℕ) (app : Application) (setup : Setup) (events : List Event) (got : List Received) (written : Told ℕ) (sent : Told Datagram) : Type 0 where
   pub more : List Received
   pub front : List Doing
   pub behind : List Doing
   pub whole : all_did spelled app setup events (got ++ more) ≡ front ++ behind
   pub next : CallsNext behind
-  pub lines : GrowsByFront written.0 written.1 (text (lines_of front))
+  pub lines : Wrote written.0 written.1 (text (lines_of front))
   pub frames : Grows sent.0 sent.1 (map (datagram_of spelled) (frames_of front))
   pub answers : answers_of front ≡ got
+
+-- where memory ran out or a write failed, some of that text is written
+abbrev pub IsPart : (Msg → List ℕ) → (List Line → List ℕ) → Application → Setup → List Event → List Received → Told ℕ → Told Datagram → Type 0
+IsPart spelled text app setup events got written sent = IsFront GrowsByFront spelled text app setup events got written sent
+
+-- where a call of the link failed, the whole of it
+abbrev pub IsCut : (Msg → List ℕ) → (List Line → List ℕ) → Application → Setup → List Event → List Received → Told ℕ → Told Datagram → Type 0
+IsCut spelled text app setup events got written sent = IsFront Grows spelled text app setup events got written sent

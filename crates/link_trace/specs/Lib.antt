@@ -1,2 +1,3 @@
 pub mod Doings
 pub mod Carried
+pub mod WorkedDoings

@@ -3,18 +3,21 @@
 //! Each law is the contract of a function that does nothing.
 #![tactic(auto)]
 
-ghost use Rattle.std.specs.Prelude.{◌≡◌, ◌≤◌, ◌++◌, Bool, List, ℕ, drop, fold, length};
+ghost use Rattle.std.specs.Prelude.{◌≡◌, ◌≤◌, ◌++◌, Bool, List, [], ◌∷◌, ℕ, drop, fold, length};
 ghost use Rattle.rp_base.specs.declared.event.Event.{Event};
+ghost use Rattle.rp_base.specs.declared.event.Refusal.{Refusal};
 ghost use Rattle.rp_base.specs.declared.node.Node.{Node as NodeValue};
 ghost use Rattle.rp_app.specs.Application.{Application};
 ghost use Rattle.proto_data.specs.declared.message.Msg.{Msg};
 ghost use Rattle.proto_model.specs.Handing.{hand};
+ghost use Rattle.proto_model.specs.Lines.{CellsLine, End, Refused, Release, Serial, Stranger};
 ghost use Rattle.proto_model.specs.Pumping.{Pumped, Received, linked_event, linked_run};
 ghost use Rattle.proto_model.specs.World.{Setup, World};
 ghost use Rattle.proto_model.specs.WorldStep.{world_step};
 ghost use Rattle.proto_safety.specs.LegalLines.{linked_report};
 ghost use Rattle.link_trace.specs.Carried.{seen, sends_of};
 ghost use Rattle.link_trace.specs.Doings.{all_did, answers_of, events_did, frames_of, lines_of, node_did, run_did};
+ghost use Rattle.link_trace.specs.WorkedDoings.{Asked, Sent, Wrote, packet_turns, r0, s0, stranger_turns};
 
 /// What is written, sent and received, event by event, are the lines of the run, all frames that it sent, each once and in order, and the
 /// answers that it took: what is left of the link's answers stands behind them.
@@ -49,4 +52,14 @@ pub fn lines_are_the_report()
 pub fn lines_tell_frames()
     ensures events { (app : Application) (w : World) (e : Event) → sends_of (world_step app w e).1 ≡ drop (length w.frames) (world_step app w e).0.frames }
     ensures hands { (app : Application) (w : World) (i : ℕ) → sends_of (hand app w i).1 ≡ drop (length w.frames) (hand app w i).0.frames }
+{}
+
+/// What two worked runs do: a packet whose four frames come as datagrams, up to the release and a refused `next`, and a stranger. Each
+/// frame goes before the link is asked again, and a line stands before the next call.
+pub fn worked_runs_do()
+    ensures packet { packet_turns ≡
+        Sent s0 r0 ∷ Asked s0 ∷ Asked r0 ∷ Sent r0 s0 ∷ Asked r0 ∷ Asked s0 ∷ Sent s0 r0 ∷ Asked s0 ∷ Asked r0 ∷ Sent r0 s0 ∷ Asked r0 ∷ Asked s0 ∷
+        Wrote (Release 4 1 7 (0 ∷ 0 ∷ 0 ∷ 0 ∷ 0 ∷ 0 ∷ 0 ∷ 1 ∷ 97 ∷ 33 ∷ [])) ∷ Asked s0 ∷ Asked r0 ∷ Wrote (Refused 5 Refusal.Linked) ∷
+        Wrote (Serial (97 ∷ []) (1 ∷ [])) ∷ Wrote (CellsLine (97 ∷ []) (1 ∷ [])) ∷ Wrote End ∷ [] }
+    ensures stranger { stranger_turns ≡ Asked s0 ∷ Wrote (Stranger 1 s0) ∷ Asked s0 ∷ Asked r0 ∷ Wrote End ∷ [] }
 {}
