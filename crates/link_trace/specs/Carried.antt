@@ -22,7 +22,7 @@ sends_of (l ∷ ls) = sends_of ls
 
 -- a datagram as the link tells it: its sender, its addressee and its bytes
 abbrev pub Datagram : Type 0
-Datagram = Node × (Node × List ℕ)
+Datagram = Node × Node × List ℕ
 
 -- what an object tells before a run and after it
 abbrev pub Told : Type 0 → Type 0
@@ -30,7 +30,7 @@ Told A = Option (List A) × Option (List A)
 
 -- a frame as the link tells it
 abbrev pub datagram_of : (Msg → List ℕ) → Msg → Datagram
-datagram_of spelled m = (m.from, (m.to, spelled m))
+datagram_of spelled m = (m.from, m.to, spelled m)
 
 -- All of a run was done over a link that gave these answers: its lines are written as this text, its frames went to the link each once
 -- and in order, and each answer was taken.
