@@ -9,13 +9,13 @@ use std::collections::BTreeMap;
 
 /// A place for some bytes each.
 #[derive(Drop)]
-pub struct FirstPlaces {
+pub(crate) struct FirstPlaces {
     places: BTreeMap<Vec<u8>, usize>,
 }
 
 impl FirstPlaces {
     /// No bytes have a place. Takes no memory.
-    pub fn new(alloc: Global) -> FirstPlaces
+    pub(crate) fn new(alloc: Global) -> FirstPlaces
         ensures { (x : List ℕ) → place_in result x ≡ None }
     {
         FirstPlaces {
@@ -24,7 +24,7 @@ impl FirstPlaces {
     }
 
     /// The place of these bytes, if they have one.
-    pub fn get(&self, bytes: &[u8]) -> Option<usize>
+    pub(crate) fn get(&self, bytes: &[u8]) -> Option<usize>
         ensures { result ≡ place_in self.now bytes.now }
     {
         self.places.get(bytes).copied()
@@ -34,7 +34,7 @@ impl FirstPlaces {
     ///
     /// # Errors
     /// `NoMemory`; nothing changes.
-    pub fn put(&mut self, alloc: Global, bytes: &[u8], place: usize) -> Result<(), NoMemory>
+    pub(crate) fn put(&mut self, alloc: Global, bytes: &[u8], place: usize) -> Result<(), NoMemory>
         ensures ok { OnOk result ((x : List ℕ) → place_in self.new x ≡ cond (bytes_eq x bytes.now) (Some place) (place_in self.old x)) }
         ensures err { OnErr result ((x : List ℕ) → place_in self.new x ≡ place_in self.old x) }
     {

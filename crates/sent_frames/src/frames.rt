@@ -32,7 +32,7 @@ fn read(alloc: Global, frame: &Bytes) -> Result<Msg, NoMemory>
 
 /// A frame: the bytes that spell its message, and the addressee that stands in them.
 #[derive(Drop)]
-pub struct Sent {
+pub(crate) struct Sent {
     to: Node,
     bytes: Bytes,
 }

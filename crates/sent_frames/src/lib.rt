@@ -4,5 +4,4 @@
 mod first_places;
 mod frames;
 
-pub use first_places::FirstPlaces;
-pub use frames::{Frames, Sent};
+pub use frames::Frames;
