@@ -16,3 +16,4 @@ pub mod FreeLocals
 pub mod FreeParsers
 pub mod FreePrograms
 pub mod Sound
+pub mod Sources

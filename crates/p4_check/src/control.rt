@@ -4,11 +4,11 @@ ghost use Rattle.p4_scope.specs.Faults.{first_in};
 ghost use Rattle.p4_scope.specs.Scopes.{each};
 ghost use Rattle.p4_check.specs.Programs.{cell_width, with_cells, cells_fault, cell_counted, cell_kind, cell_, action_param, action_left, action_body, action_in, action, local_, inputs, ingress_body, ingress_in, ingress, emit, deparser_in, deparser};
 
-use crate::copy::cell_copy;
 use crate::state::is_packet;
 use p4_ast::{
     P4Action, P4Block, P4Cell, P4Deparser, P4Emit, P4Field, P4Ingress, P4Local, P4Name, P4Type,
 };
+use p4_copy::declaration::cell_copy;
 use p4_scope::copy::{fields_copy, name_copy};
 use p4_scope::param::same_param;
 use p4_scope::refusal::{earlier, fault, fault_if};

@@ -3,7 +3,6 @@
 
 mod checked;
 mod control;
-mod copy;
 mod end;
 mod graph;
 mod part;

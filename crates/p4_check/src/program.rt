@@ -4,10 +4,10 @@ ghost use Rattle.p4_scope.specs.Scopes.{outermost, each};
 ghost use Rattle.p4_check.specs.Programs.{declaration_, is_parser, is_ingress, is_deparser, package_fault, controls, behind_declarations, program, with_parts};
 
 use crate::control::{deparser, ingress};
-use crate::copy::{header_copy, struct_copy, typedef_copy};
 use crate::part::Parts;
 use crate::state::parser;
 use p4_ast::{P4Block, P4Declaration, P4Ingress, P4Local, P4Package, P4Parser, P4Program, P4State};
+use p4_copy::declaration::{header_copy, struct_copy, typedef_copy};
 use p4_scope::record::{header, structure, typedef};
 use p4_scope::refusal::earlier;
 use p4_scope::{Kind, Scope, Thing, must_be};

@@ -1,8 +1,8 @@
-//! Copies of what stands before the parser.
+//! Copies of declarations.
 ghost use Rattle.std.specs.Prelude.{◌≡◌, IfOk};
 
 use crate::expression::expr_copy;
-use p4_ast::{P4Const, P4Declaration, P4Header, P4Struct, P4Typedef};
+use p4_ast::{P4Cell, P4Const, P4Declaration, P4Header, P4Struct, P4Typedef};
 use p4_scope::copy::{fields_copy, name_copy, type_copy};
 use rp_base::NoMemory;
 use sqlite_items::Items;
@@ -68,6 +68,39 @@ pub fn const_copy(alloc: Global, x: &P4Const) -> Result<P4Const, NoMemory>
         name,
         expr,
     })
+}
+
+/// Equal cells of a declaration.
+///
+/// # Errors
+/// `NoMemory`.
+pub fn cell_copy(c: &P4Cell) -> Result<P4Cell, NoMemory>
+    ensures { IfOk result (λ d. d ≡ c.now) }
+{
+    match c {
+        P4Cell::Cell { at, type_, name } => {
+            let name = name_copy(name)?;
+            Ok(P4Cell::Cell {
+                at: *at,
+                type_: type_copy(type_)?,
+                name,
+            })
+        }
+        P4Cell::Array {
+            at,
+            type_,
+            size,
+            name,
+        } => {
+            let name = name_copy(name)?;
+            Ok(P4Cell::Array {
+                at: *at,
+                type_: type_copy(type_)?,
+                size: *size,
+                name,
+            })
+        }
+    }
 }
 
 fn declaration_copy(alloc: Global, d: &P4Declaration) -> Result<P4Declaration, NoMemory>

@@ -1,18 +1,12 @@
 -- What is known of a program that was checked and not rewritten.
-use Rattle.std.proofs.Common.{◌≡◌, ◌≤◌, ℕ, None, sym, ap, subst}
+use Rattle.std.proofs.Common.{◌≡◌, ℕ, ap}
 use Rattle.p4_ast.specs.declared.control.P4Param.{P4Param}
 use Rattle.p4_ast.specs.declared.program.P4Program.{P4Program}
 use Rattle.std.specs.Prelude.{Option}
-use Rattle.app_meaning.specs.Programs.{cell_count, locals, registers_of, control_scope}
+use Rattle.app_meaning.specs.Programs.{locals, registers_of, control_scope}
 use Rattle.p4_check.specs.Checking.{IsSource, IsRewritten}
 use Rattle.p4_check.specs.Rewriting.{Source, source_of, rewritten}
-use Rattle.check_laws.proofs.ProgramWalk.{counted, no_fourth}
-
-pub few : (t : P4Program) (n : ℕ) → IsSource t n → cell_count t ≤ 256
-few t n (p, bad, tree, cells) = subst (λ x. cell_count x ≤ 256) (sym tree) (counted p bad).1
-
-unrewritten : (t : P4Program) (n : ℕ) → IsSource t n → t.ingress.rp ≡ None
-unrewritten t n (p, bad, tree, cells) = subst (λ (x : P4Program). x.ingress.rp ≡ None) (sym tree) (no_fourth p bad)
+use Rattle.check_laws.proofs.Sources.{unrewritten}
 
 -- the types and the cells of its control are those that it is rewritten by
 pub source_is : (t : P4Program) (n : ℕ) → IsSource t n → record { types = (control_scope t n).types; registers = (control_scope t n).registers } ≡ source_of t

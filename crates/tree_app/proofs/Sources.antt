@@ -1,5 +1,5 @@
 -- What is known of a program that was checked and not rewritten.
-use Rattle.std.proofs.Common.{◌≡◌, ◌∙◌, ◌≤◌, ◌<◌, ℕ, List, Option, None, Result, Ok, Err, IfOk, sym, ap, subst, length, All}
+use Rattle.std.proofs.Common.{◌≡◌, ◌∙◌, ◌<◌, ℕ, List, Option, Result, Ok, Err, IfOk, sym, ap, subst, length, All}
 use Rattle.rp_base.specs.declared.error.NoMemory.{NoMemory}
 use Rattle.rp_base.specs.declared.node.Packet.{Packet}
 use Rattle.rp_base.specs.declared.node.Output.{Output}
@@ -9,18 +9,13 @@ use Rattle.p4_ast.specs.declared.program.P4Program.{P4Program}
 use Rattle.p4_check.specs.Checking.{IsSource}
 use Rattle.app_meaning.specs.Programs.{application, cell_count, outcome, plain}
 use Rattle.app_meaning.proofs.Outcomes.{sized_runs, writes_cells}
-use Rattle.check_laws.proofs.Sound.{sound_of, counted_cells}
+use Rattle.check_laws.proofs.Sound.{counted_cells}
+use Rattle.check_laws.proofs.Sources.{few, unrewritten}
 use Rattle.tree_app.specs.Ended.{ended}
 use Rattle.tree_app.specs.declared.run.Ended.{Ended}
 
 pub counts : (t : P4Program) (n : ℕ) → IsSource t n → n ≡ cell_count t
 counts t n (p, bad, tree, cells) = cells ∙ counted_cells p bad ∙ sym (ap cell_count tree)
-
-pub few : (t : P4Program) (n : ℕ) → IsSource t n → cell_count t ≤ 256
-few t n (p, bad, tree, cells) = subst (λ x. cell_count x ≤ 256) (sym tree) (sound_of p bad).few
-
-pub unrewritten : (t : P4Program) (n : ℕ) → IsSource t n → t.ingress.rp ≡ None
-unrewritten t n (p, bad, tree, cells) = subst (λ (x : P4Program). x.ingress.rp ≡ None) (sym tree) (sound_of p bad).source
 
 -- a packet of a flow writes cells that there are
 pub writes_within : (t : P4Program) (n : ℕ) → IsSource t n → (cells : List ℕ) (packet : Packet) (delta : Delta) (out : Option Output) → length cells ≡ cell_count t → (delta, out) ≡ (application t).plain cells packet →

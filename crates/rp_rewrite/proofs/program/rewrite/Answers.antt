@@ -5,7 +5,8 @@ use Rattle.tree_scope.specs.Scopes.{ProgramScopes, scopes_of}
 use Rattle.p4_check.specs.Checking.{IsSource}
 use Rattle.p4_check.specs.Rewriting.{Source, source_of, rewritten}
 use Rattle.rp_rewrite.specs.Sources.{source_in}
-use Rattle.rp_rewrite.proofs.Accepted.{few, source_is, is_rewritten}
+use Rattle.check_laws.proofs.Sources.{few}
+use Rattle.rp_rewrite.proofs.Accepted.{source_is, is_rewritten}
 use Rattle.rp_rewrite.proofs.program.rewrite.Goals as goal
 
 pub of-requires : goal.of-requires

@@ -3,7 +3,8 @@ use Rattle.p4_ast.specs.declared.program.P4Program.{P4Program}
 use Rattle.p4_check.specs.Checking.{CheckedProgram, IsSource}
 use Rattle.app_meaning.specs.Programs.{cell_count}
 use Rattle.tree_scope.specs.Scopes.{scopes_of}
-use Rattle.tree_app.proofs.Sources.{counts, few, ended_within}
+use Rattle.check_laws.proofs.Sources.{few}
+use Rattle.tree_app.proofs.Sources.{counts, ended_within}
 use Rattle.tree_app.proofs.app.TreeRun.ended.Goals as goal
 
 pub run_in-requires-clause-scopes : goal.run_in-requires-clause-scopes

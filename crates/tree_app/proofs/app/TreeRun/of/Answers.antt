@@ -1,7 +1,7 @@
 use Rattle.std.proofs.Common.{◌≤◌, sym, subst}
 use Rattle.p4_ast.specs.declared.program.P4Program.{P4Program}
 use Rattle.app_meaning.specs.Programs.{cell_count}
-use Rattle.tree_app.proofs.Sources.{few}
+use Rattle.check_laws.proofs.Sources.{few}
 use Rattle.tree_app.proofs.app.TreeRun.of.Goals as goal
 
 pub of-requires : goal.of-requires
